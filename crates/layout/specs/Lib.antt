@@ -1,0 +1,4 @@
+pub mod Wire
+pub mod Reach
+pub mod Lawful
+pub mod Hint

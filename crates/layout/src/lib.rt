@@ -1,0 +1,7 @@
+pub mod find;
+pub mod kinds;
+pub mod reach;
+pub mod sheet;
+pub mod template;
+pub mod width;
+pub mod wire;
