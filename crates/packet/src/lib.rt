@@ -1,0 +1,3 @@
+pub mod message;
+pub mod values;
+pub mod fields;
