@@ -71,7 +71,7 @@ massFields l m =
 
 -- the template's number stands in the message's header
 abbrev pub statFields : StatLayout → List ℕ → Option StatFields
-statFields l m = also (rootBlock m) (λ b. also (valueAt b (l .value)) (λ v. Some (record { template = leAt m 6 2; value = v })))
+statFields l m = also (rootBlock m) (λ b. also (valueAt b (l .value)) (λ v. also (numberAt m 6 2) (λ t. Some (record { template = t; value = v }))))
 
 abbrev pub headerFields : HeaderLayout → List ℕ → Option HeaderFields
 headerFields l m =

@@ -3,7 +3,6 @@ ghost use Rattle.std.specs.declared.option.Option.the-variants.{Some, None};
 ghost use Rattle.std.specs.Options.{Cases as BySome};
 ghost use Rattle.packet.specs.Meaning.{rootBlock, priceAt, valueAt, orderAt, orderFields, deleteFields, massFields, statFields, headerFields, entryFields, security};
 ghost use Rattle.packet.specs.Views.{view};
-ghost use Rattle.layout.specs.Wire.{leAt, fieldAt};
 use crate::message::Message;
 use crate::values::DeleteFields;
 use crate::values::EntryFields;
@@ -57,14 +56,25 @@ fn value(block: &[u8], spot: &Spot) -> Option<i64>
 }
 
 // The order whose fields lie at these spots.
-fn order_at(block: &[u8], at_price: &Spot, at_size: &Spot, at_oid: &Spot, at_firm: &Spot) -> Option<Order>
+fn order_at(
+    block: &[u8],
+    at_price: &Spot,
+    at_size: &Spot,
+    at_oid: &Spot,
+    at_firm: &Spot,
+) -> Option<Order>
     ensures { λ r. ⌜ r ≡ orderAt (now (block .entry)) (now («at_price» .entry)) (now («at_size» .entry)) (now («at_oid» .entry)) (now («at_firm» .entry)) ⌝ }
 {
     let price = price(block, at_price)?;
     let size = field(block, at_size)?;
     let oid = field(block, at_oid)?;
     let firm = field(block, at_firm)?;
-    Some(Order { price, size, oid, firm })
+    Some(Order {
+        price,
+        size,
+        oid,
+        firm,
+    })
 }
 
 // The fields of an `order` message.
@@ -76,7 +86,12 @@ pub fn order_fields(l: &OrderLayout, part: &[u8]) -> Option<OrderFields>
     let side = field(root, &l.side)?;
     let position = field(root, &l.position)?;
     let order = order_at(root, &l.price, &l.size, &l.oid, &l.firm)?;
-    Some(OrderFields { action, side, position, order })
+    Some(OrderFields {
+        action,
+        side,
+        position,
+        order,
+    })
 }
 
 // The fields of a `delete` message.
@@ -97,18 +112,11 @@ pub fn mass_fields(l: &MassLayout, part: &[u8]) -> Option<MassFields>
     let action = field(root, &l.action)?;
     let side = field(root, &l.side)?;
     let position = field(root, &l.position)?;
-    Some(MassFields { action, side, position })
-}
-
-// The template's number, which stands in the message's header.
-fn template_of(part: &[u8]) -> u16
-    ensures { λ r. ⌜ r ≡ leAt (now (part .entry)) 6 2 ⌝ }
-{
-    match part {
-        [_, _, _, _, _, _, a, b, ..] => u16::from_le_bytes([*a, *b]),
-        [_, _, _, _, _, _, a] => u16::from(*a),
-        _ => 0,
-    }
+    Some(MassFields {
+        action,
+        side,
+        position,
+    })
 }
 
 // The fields of a `stat` message.
@@ -117,7 +125,8 @@ pub fn stat_fields(l: &StatLayout, part: &[u8]) -> Option<StatFields>
 {
     let root = root_block(part)?;
     let value = value(root, &l.value)?;
-    Some(StatFields { template: template_of(part), value })
+    let template = number(part, 6, Width::Two)?;
+    Some(StatFields { template, value })
 }
 
 // The fields of a `header` message.
@@ -129,7 +138,12 @@ pub fn header_fields(l: &HeaderLayout, part: &[u8]) -> Option<HeaderFields>
     let bids = field(root, &l.bids)?;
     let offers = field(root, &l.offers)?;
     let stats = field(root, &l.stats)?;
-    Some(HeaderFields { last, bids, offers, stats })
+    Some(HeaderFields {
+        last,
+        bids,
+        offers,
+        stats,
+    })
 }
 
 // The fields of one entry of a group.
@@ -139,7 +153,11 @@ pub fn entry_fields(l: &EntriesLayout, entry: &[u8]) -> Option<EntryFields>
     let side = field(entry, &l.side)?;
     let position = field(entry, &l.position)?;
     let order = order_at(entry, &l.price, &l.size, &l.oid, &l.firm)?;
-    Some(EntryFields { side, position, order })
+    Some(EntryFields {
+        side,
+        position,
+        order,
+    })
 }
 
 // The instrument that a message is about.

@@ -1,3 +1,3 @@
+pub mod fields;
 pub mod message;
 pub mod values;
-pub mod fields;

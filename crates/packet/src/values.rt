@@ -34,7 +34,7 @@ pub struct MassFields {
 // the latest number of the statistic that a template stands for
 #[derive(Clone, Copy)]
 pub struct StatFields {
-    pub template: u16,
+    pub template: u64,
     pub value: i64,
 }
 
