@@ -1,0 +1,4 @@
+pub mod Kind
+pub mod Law
+pub mod Faults
+pub mod Calls
