@@ -1,2 +1,4 @@
 pub mod Meaning
 pub mod Views
+pub mod Rules
+pub mod Refusals

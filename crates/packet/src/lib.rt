@@ -1,3 +1,7 @@
-pub mod fields;
+pub mod fault;
+pub mod head;
 pub mod message;
 pub mod values;
+pub mod fields;
+pub mod checked;
+pub mod rules;
