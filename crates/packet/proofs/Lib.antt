@@ -1,2 +1,4 @@
 pub mod Walks
 pub mod Steps
+pub mod Handed
+pub mod Groups

@@ -89,9 +89,15 @@ abbrev pub parts : ℕ → ℕ → List ℕ → List (List ℕ)
 parts size zero bs = []
 parts size (suc n) bs = take size bs ∷ parts size n (drop size bs)
 
+abbrev pub orNone : Option (List (List ℕ)) → List (List ℕ)
+orNone None = []
+orNone (Some ps) = ps
+
 -- the entries of the group that starts behind the root block: an entry's length in two bytes, a count, then the entries
 abbrev pub entryParts : EntriesLayout → List ℕ → List (List ℕ)
-entryParts l m = parts (leAt m (12 + leAt m 4 2) 2) (leAt m (12 + leAt m 4 2 + 2) (bytesOf (l .count))) (drop (12 + leAt m 4 2 + 2 + bytesOf (l .count)) m)
+entryParts l m =
+    orNone (also (rootBlock m) (λ _. also (numberAt m (12 + leAt m 4 2) 2) (λ size. also (numberAt m (12 + leAt m 4 2 + 2) (bytesOf (l .count))) (λ n.
+    Some (parts size n (drop (12 + leAt m 4 2 + 2 + bytesOf (l .count)) m))))))
 
 -- what a message does to a book or a panel: `aside` where it changes none, `broken` where a field lies past its end
 pub data Body : Type 0 where

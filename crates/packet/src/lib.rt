@@ -5,3 +5,5 @@ pub mod values;
 pub mod fields;
 pub mod checked;
 pub mod rules;
+pub mod walk;
+pub mod group;
