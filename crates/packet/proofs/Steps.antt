@@ -39,7 +39,7 @@ then-ok (Err d) f y e = let z : _≡_ {A = ℕ} 0 1 = cc in absurd (omega arith)
 head-ok : (bs : List ℕ) (at : ℕ) → Ok tt ≡ headCheck bs at → (12 ≤ length bs) × (12 ≤ leAt bs 0 2) × (leAt bs 0 2 ≤ length bs)
 head-ok bs at e = (grind (arith, tells), grind (arith, tells), grind (arith, tells))
 
-message-ok : (s : Sheet) (bs : List ℕ) (at n : ℕ) → Ok n ≡ messageCheck s bs at → (n ≡ leAt bs 0 2) × (12 ≤ length bs) × (12 ≤ leAt bs 0 2) × (leAt bs 0 2 ≤ length bs)
+pub message-ok : (s : Sheet) (bs : List ℕ) (at n : ℕ) → Ok n ≡ messageCheck s bs at → (n ≡ leAt bs 0 2) × (12 ≤ length bs) × (12 ≤ leAt bs 0 2) × (leAt bs 0 2 ≤ length bs)
 message-ok s bs at n e =
     let p = then-ok (headCheck bs at) (λ _. andThen (layoutCheck (find (vec-items (s .templates)) (leAt bs 6 2)) (take (leAt bs 0 2) bs) (leAt bs 4 2) at) (λ _. Ok (leAt bs 0 2))) n e in
     let q = then-ok (layoutCheck (find (vec-items (s .templates)) (leAt bs 6 2)) (take (leAt bs 0 2) bs) (leAt bs 4 2) at) (λ _. Ok (leAt bs 0 2)) n (p .2) in

@@ -1,6 +1,6 @@
 -- The rules of a packet: which bytes are refused, and where.
 use mathlib.Core.Bool.{Bool, true, false, cond, _||_, not}
-use mathlib.Core.List.{List, [], _∷_}
+use mathlib.Core.List.{List, [], _∷_, _++_}
 use Prim.Native.Nat.{ℕ, zero, suc, _+_, _*_, _-_}
 use lib.Dec.{ltb, eqb}
 use lib.ListN.{length, take, drop, getD}
@@ -100,3 +100,8 @@ messagesFrom s zero (b ∷ bs) = msgAt s (b ∷ bs) ∷ messagesFrom s (leAt (b 
 -- the messages of a packet that keeps the rules
 abbrev pub messages : Sheet → List ℕ → List Msg
 messages s bs = messagesFrom s 0 (drop 16 bs)
+
+-- the bytes of messages, one behind the other
+abbrev pub joined : List Msg → List ℕ
+joined [] = []
+joined (m ∷ ms) = m .bytes ++ joined ms

@@ -8,7 +8,7 @@ ghost use Rattle.layout.specs.Reach.{groupReach};
 ghost use Rattle.std.specs.declared.option.Option.the-variants.{Some};
 ghost use Rattle.std.specs.declared.result.Result.the-variants.{Err};
 ghost use Rattle.layout.specs.declared.kinds.Layout.the-variants.{Entries};
-ghost use Rattle.packet.specs.Rules.{messageHead, headCheck, groupCheck, layoutCheck, messageCheck, walkCheck, sizeCheck, packetCheck};
+ghost use Rattle.packet.specs.Rules.{messageHead, headCheck, groupCheck, layoutCheck, messageCheck, walkCheck, sizeCheck, packetCheck, messages, joined};
 use crate::fault::FrameFault;
 use crate::head::MessageHead;
 use layout::kinds::EntriesLayout;
@@ -125,7 +125,8 @@ fn walk_check(sheet: &Sheet, bytes: &[u8]) -> Result<(), FrameFault>
 
 // Whether bytes are a packet by this sheet; else the first rule that they break, and where.
 pub fn check(sheet: &Sheet, bytes: &[u8]) -> Result<(), FrameFault>
-    ensures { λ r. ⌜ r ≡ packetCheck (now (sheet .entry)) (now (bytes .entry)) ⌝ }
+    ensures answer { λ r. ⌜ r ≡ packetCheck (now (sheet .entry)) (now (bytes .entry)) ⌝ }
+    ensures filled { λ r. ⌜ made r (λ _. joined (messages (now (sheet .entry)) (now (bytes .entry))) ≡ drop 16 (now (bytes .entry))) ⌝ }
 {
     size_check(bytes.len())?;
     walk_check(sheet, bytes)
