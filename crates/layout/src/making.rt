@@ -24,13 +24,15 @@ use crate::wire::bytes_of;
 use std::alloc::AllocError;
 use std::alloc::Global;
 
-fn is_up_to(most: usize, s: &Spot) -> bool
+// Whether a field has at most that many bytes, and ends within the longest block.
+pub fn is_up_to(most: usize, s: &Spot) -> bool
     ensures { λ r. ⌜ r ≡ upTo most (now (s .entry)) ⌝ }
 {
     (bytes_of(s.width) <= most) & (reach_of(s) <= 1372)
 }
 
-fn is_just(bytes: usize, s: &Spot) -> bool
+// Whether a field has just that many bytes, and ends within the longest block.
+pub fn is_just(bytes: usize, s: &Spot) -> bool
     ensures { λ r. ⌜ r ≡ just bytes (now (s .entry)) ⌝ }
 {
     (bytes_of(s.width) == bytes) & (reach_of(s) <= 1372)
