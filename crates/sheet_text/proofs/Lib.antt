@@ -1,3 +1,5 @@
 pub mod Cuts
 pub mod Rows
 pub mod Figures
+pub mod Searches
+pub mod Firsts

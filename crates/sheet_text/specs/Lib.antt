@@ -1,2 +1,4 @@
 pub mod Text
 pub mod Names
+pub mod FieldLines
+pub mod Follows

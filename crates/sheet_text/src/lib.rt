@@ -1,3 +1,5 @@
+pub mod follows;
+pub mod line;
 pub mod names;
 pub mod text;
 pub mod types;

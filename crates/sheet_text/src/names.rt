@@ -66,13 +66,37 @@ pub fn fields_of(kind: Kind) -> &'static [Field]
     ensures { λ r. ⌜ now r ≡ fieldsOf kind ⌝ }
 {
     match kind {
-        Kind::Order => &[Field::Security, Field::Action, Field::Side, Field::Position, Field::Price, Field::Size, Field::Oid, Field::Firm],
+        Kind::Order => &[
+            Field::Security,
+            Field::Action,
+            Field::Side,
+            Field::Position,
+            Field::Price,
+            Field::Size,
+            Field::Oid,
+            Field::Firm,
+        ],
         Kind::Delete => &[Field::Security, Field::Side, Field::Position],
         Kind::Mass => &[Field::Security, Field::Action, Field::Side, Field::Position],
         Kind::Empty => &[Field::Security],
         Kind::Stat => &[Field::Security, Field::Value],
-        Kind::Header => &[Field::Security, Field::Last, Field::Bids, Field::Offers, Field::Stats],
-        Kind::Entries => &[Field::Security, Field::Group, Field::Side, Field::Position, Field::Price, Field::Size, Field::Oid, Field::Firm],
+        Kind::Header => &[
+            Field::Security,
+            Field::Last,
+            Field::Bids,
+            Field::Offers,
+            Field::Stats,
+        ],
+        Kind::Entries => &[
+            Field::Security,
+            Field::Group,
+            Field::Side,
+            Field::Position,
+            Field::Price,
+            Field::Size,
+            Field::Oid,
+            Field::Firm,
+        ],
     }
 }
 
