@@ -3,3 +3,6 @@ pub mod Rows
 pub mod Figures
 pub mod Searches
 pub mod Firsts
+pub mod Openings
+pub mod Missing
+pub mod Keeps

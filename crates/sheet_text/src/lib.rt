@@ -1,5 +1,6 @@
 pub mod follows;
 pub mod line;
 pub mod names;
+pub mod opening;
 pub mod text;
 pub mod types;
