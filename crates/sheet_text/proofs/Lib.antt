@@ -6,3 +6,4 @@ pub mod Firsts
 pub mod Openings
 pub mod Missing
 pub mod Keeps
+pub mod Progress

@@ -7,4 +7,4 @@ use Rattle.sheet_text.proofs.opening.behind.Needs as need
 
 pub returns-then-same : need.returns-then-same
 returns-then-same c =
-    c .in-Continue-line .ensures tt ∙ ap (λ l. Some l ∷ rows (c .in-Continue-line .rest .now)) (sameBytes-decides _ _ .0 (sym (c .same .ensures) ∙ c .if-same .taken))
+    c .in-Continue-line .ensures tt .value ∙ ap (λ l. Some l ∷ rows (c .in-Continue-line .rest .now)) (sameBytes-decides _ _ .0 (sym (c .same .ensures) ∙ c .if-same .taken))
