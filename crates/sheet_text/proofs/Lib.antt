@@ -7,3 +7,5 @@ pub mod Openings
 pub mod Missing
 pub mod Keeps
 pub mod Progress
+pub mod Layouts
+pub mod Builds

@@ -6,3 +6,4 @@ pub mod Sheets
 pub mod Meaning
 pub mod Opening
 pub mod Kept
+pub mod Adding

@@ -1,3 +1,5 @@
+pub mod building;
+pub mod filling;
 pub mod follows;
 pub mod line;
 pub mod names;
