@@ -1,0 +1,9 @@
+pub mod building;
+pub mod filling;
+pub mod follows;
+pub mod line;
+pub mod names;
+pub mod opening;
+pub mod reading;
+pub mod text;
+pub mod types;
