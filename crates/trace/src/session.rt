@@ -6,10 +6,11 @@ use packet::checked::Checked;
 use packet::head::PacketHead;
 use packet::message::Message;
 use packet::rules::check;
+use refusal::Layer;
 use refusal::Refusal;
 use refusal::RefusalDisplay;
 use sheet_text::text::cut;
-use sheet_text::fill::fill;
+use sheet_text::filling::fill;
 use std::alloc::AllocError;
 use std::alloc::Global;
 use std::error::AnyError;
@@ -27,10 +28,12 @@ pub fn first_line<'a>(input: &'a [u8]) -> (&'a [u8], &'a [u8])
     requires { ⌜ 0 < length (now input) ⌝ }
     ensures { λ r. ⌜ length (now (r .1)) < length (now (input .entry)) ⌝ }
 {
-    match cut(input, b'\n') {
-        Some((line, after)) => (line, after),
-        None => (input, &input[0..0]),
+    for (i, b) in input.iter().enumerate() {
+        if *b == b'\n' {
+            return (&input[0..i], &input[i + 1..]);
+        }
     }
+    (input, &input[0..0])
 }
 
 // A command's first word, and what is behind the space after it.
@@ -108,7 +111,7 @@ impl Session {
                 let n = self.sheet.templates.len();
                 writeln!(out, "sheet {n}")?;
             }
-            Err(fault) => refused(fault.refusal(), out)?,
+            Err(fault) => refused(Refusal { number: 17, layer: Layer::Sheet, place: fault.line }, out)?,
         }
         Ok(true)
     }
