@@ -9,15 +9,18 @@ use lib.Dec.{eqb}
 use lib.ListN.{length, getD, take, drop}
 use Rattle.std.proofs.shelf.Lists.{append-assoc, append-nil, length-push, getD-append-left, getD-push}
 use Rattle.std.proofs.shelf.Tests.{false≢true, true≢false, cases-lt, cases-bool, and-parts, and-from, or-parts, eqb-true, eq-eqb, not-true, cond-true, cond-false}
+use Rattle.std.specs.Results.{Cases}
+use Rattle.std.specs.declared.result.Result.{Result}
 use Rattle.std.specs.declared.option.Option.{Option}
 use Rattle.std.specs.declared.option.Option.the-variants.{Some, None}
 use Rattle.sheet_text.specs.declared.types.Field.{Field}
 use Rattle.sheet_text.specs.declared.types.FieldLine.{FieldLine}
+use Rattle.sheet_text.specs.declared.types.SheetFault.{SheetFault}
 use Rattle.sheet_text.specs.Text.{Row, andThen}
 use Rattle.sheet_text.specs.Names.{sameField, sameKind, fieldsOf}
 use Rattle.sheet_text.specs.FieldLines.{fieldLine}
 use Rattle.sheet_text.specs.Follows.{listed, named, missing, lastOf, lacks, complete, goesOn, roomFor, mayFollow}
-use Rattle.sheet_text.specs.Sheets.{right, mayEnd, firstWrong, follows, fieldLines, withLine}
+use Rattle.sheet_text.specs.Sheets.{right, mayEnd, firstWrong, follows, fieldLines, withLine, answer}
 use Rattle.sheet_text.specs.Meaning.{spotOf}
 use Rattle.sheet_text.specs.Laws.{Honoured}
 use Rattle.sheet_text.proofs.Missing.{unlisted-unnamed, missing-no-more, last-push}
@@ -89,10 +92,10 @@ ready-old xs z y h (inr g) =
     ⊎-elim
     (λ l. inr (last-goes xs z y (goes-same (lastOf xs) z y (and-parts (goesOn (lastOf xs) z) (not (named xs (z .template) (z .field))) (sym (cond-true _ _ _ l) ∙ h) .0) g)))
     (λ l.
-      let c = and-parts (complete xs) (roomFor xs (z .kind)) (sym (cond-false _ _ _ l) ∙ h) .0 in
-      let none = completes xs y c (inr g) in
-      let less = missing-no-more xs z (y .template) (fieldsOf (y .kind)) in
-      inl (omega arith))
+    let c = and-parts (complete xs) (roomFor xs (z .kind)) (sym (cond-false _ _ _ l) ∙ h) .0 in
+    let none = completes xs y c (inr g) in
+    let less = missing-no-more xs z (y .template) (fieldsOf (y .kind)) in
+    inl (omega arith))
     (cases-bool (listed xs (z .template)))
 
 steps-push : (xs : List FieldLine) (z : FieldLine) → Steps xs → mayFollow xs z ≡ true → Steps (xs ++ z ∷ [])
@@ -100,21 +103,22 @@ steps-push xs z s h =
     let long = length-push xs z in
     record {
       placed = (λ k d l.
-        ⊎-elim
-        (λ lt.
+          ⊎-elim
+          (λ lt.
           let y = getD xs k d in
           subst (λ v. spotOf (xs ++ z ∷ []) (v .template) (v .field) ≡ v .spot) (sym (getD-append-left xs (z ∷ []) d k lt)) (spot-stays xs z (y .template) (y .field) (named-at xs k d lt) ∙ s .placed k d lt))
-        (λ ge.
+          (λ ge.
           let e : length xs ≡ k = omega arith in
           subst (λ v. spotOf (xs ++ z ∷ []) (v .template) (v .field) ≡ v .spot) (sym (getD-push xs z d k e)) (spot-push xs z (fresh xs z h)))
-        (cases-lt k (length xs)));
+          (cases-lt k (length xs)));
       ready = (λ k d l.
-        ⊎-elim
-        (λ lt. subst (Ready (xs ++ z ∷ [])) (sym (getD-append-left xs (z ∷ []) d k lt)) (ready-old xs z (getD xs k d) h (s .ready k d lt)))
-        (λ ge.
+          ⊎-elim
+          (λ lt. subst (Ready (xs ++ z ∷ [])) (sym (getD-append-left xs (z ∷ []) d k lt)) (ready-old xs z (getD xs k d) h (s .ready k d lt)))
+          (λ ge.
           let e : length xs ≡ k = omega arith in
           subst (Ready (xs ++ z ∷ [])) (sym (getD-push xs z d k e)) (inr (last-goes xs z z (and-from _ _ (eq-eqb (z .template) (z .template) refl) (eq-eqb _ _ refl)))))
-        (cases-lt k (length xs))) }
+          (cases-lt k (length xs)));
+    }
 
 ends : (xs : List FieldLine) → Steps xs → complete xs ≡ true → Honoured xs
 ends xs s c = record { placed = s .placed; whole = (λ k d l. completes xs (getD xs k d) c (s .ready k d l)) }
@@ -122,8 +126,46 @@ ends xs s c = record { placed = s .placed; whole = (λ k d l. completes xs (getD
 no-lines : Steps []
 no-lines = record { placed = (λ k d l. absurd (omega arith)); ready = (λ k d l. absurd (omega arith)) }
 
-lines-more : (xs : List FieldLine) (o : Option FieldLine) (ys : List FieldLine) → Steps xs → follows xs o ≡ true → ((zs : List FieldLine) → Steps zs → zs ++ ys ≡ xs ++ withLine o ys → Honoured (zs ++ ys)) → Honoured (xs ++ withLine o ys)
-lines-more xs None ys s h k = absurd (false≢true h)
-lines-more xs (Some x) ys s h k =
-    let e = append-assoc xs (x ∷ []) ys in
-    subst Honoured e (k (xs ++ x ∷ []) (steps-push xs x s h) e)
+steps-line : (xs : List FieldLine) (o : Option FieldLine) → Steps xs → follows xs o ≡ true → Steps (xs ++ withLine o [])
+steps-line xs None s h = absurd (false≢true h)
+steps-line xs (Some x) s h = steps-push xs x s h
+
+with-more : (o : Option FieldLine) (xs ys : List FieldLine) → withLine o (xs ++ ys) ≡ withLine o xs ++ ys
+with-more None xs ys = refl
+with-more (Some x) xs ys = refl
+
+lines-more : (rs : List Row) (r : Row) → fieldLines (rs ++ r ∷ []) ≡ fieldLines rs ++ withLine (andThen r fieldLine) []
+lines-more [] r = refl
+lines-more (q ∷ rs) r = ap (withLine (andThen q fieldLine)) (lines-more rs r) ∙ with-more (andThen q fieldLine) (fieldLines rs) (withLine (andThen r fieldLine) [])
+
+onward : (a b c d : Row) (passed rs : List Row) → Steps (fieldLines passed) → firstWrong (a ∷ b ∷ c ∷ d ∷ passed) rs ≡ None → Honoured (fieldLines (passed ++ rs))
+onward a b c d passed [] s h =
+    subst (λ l. Honoured (fieldLines l)) (sym (append-nil passed)) (ends (fieldLines passed) s (past (complete (fieldLines passed)) None (length (a ∷ b ∷ c ∷ d ∷ passed) + 1) h .0))
+onward a b c d passed (None ∷ rs) s h = absurd (never _ h)
+onward a b c d passed (Some l ∷ rs) s h =
+    let p = past (follows (fieldLines passed) (fieldLine l)) (firstWrong (a ∷ b ∷ c ∷ d ∷ passed ++ Some l ∷ []) rs) (length (a ∷ b ∷ c ∷ d ∷ passed) + 1) h in
+    let more = subst Steps (sym (lines-more passed (Some l))) (steps-line (fieldLines passed) (fieldLine l) s (p .0)) in
+    subst (λ l. Honoured (fieldLines l)) (append-assoc passed (Some l ∷ []) rs) (onward a b c d (passed ++ Some l ∷ []) rs more (p .1))
+
+accepted : (rs : List Row) → firstWrong [] rs ≡ None → Honoured (fieldLines (drop 4 rs))
+accepted [] h = absurd (never _ h)
+accepted (a ∷ []) h = absurd (never _ (past (right [] a) (firstWrong (a ∷ []) []) 1 h .1))
+accepted (a ∷ b ∷ []) h =
+    let p = past (right [] a) (firstWrong (a ∷ []) (b ∷ [])) 1 h .1 in
+    absurd (never _ (past (right (a ∷ []) b) (firstWrong (a ∷ b ∷ []) []) 2 p .1))
+accepted (a ∷ b ∷ c ∷ []) h =
+    let p = past (right [] a) (firstWrong (a ∷ []) (b ∷ c ∷ [])) 1 h .1 in
+    let q = past (right (a ∷ []) b) (firstWrong (a ∷ b ∷ []) (c ∷ [])) 2 p .1 in
+    absurd (never _ (past (right (a ∷ b ∷ []) c) (firstWrong (a ∷ b ∷ c ∷ []) []) 3 q .1))
+accepted (a ∷ b ∷ c ∷ d ∷ rs) h =
+    let p = past (right [] a) (firstWrong (a ∷ []) (b ∷ c ∷ d ∷ rs)) 1 h .1 in
+    let q = past (right (a ∷ []) b) (firstWrong (a ∷ b ∷ []) (c ∷ d ∷ rs)) 2 p .1 in
+    let r = past (right (a ∷ b ∷ []) c) (firstWrong (a ∷ b ∷ c ∷ []) (d ∷ rs)) 3 q .1 in
+    onward a b c d [] rs no-lines (past (right (a ∷ b ∷ c ∷ []) d) (firstWrong (a ∷ b ∷ c ∷ d ∷ []) rs) 4 r .1)
+
+held : (rs : List Row) (o : Option ℕ) → firstWrong [] rs ≡ o → Cases (answer o) (λ _. Honoured (fieldLines (drop 4 rs))) (λ _. Unit {0})
+held rs None h = accepted rs h
+held rs (Some n) h = tt
+
+pub honours : (rs : List Row) (r : Result (Unit {0}) SheetFault) → r ≡ answer (firstWrong [] rs) → Cases r (λ _. Honoured (fieldLines (drop 4 rs))) (λ _. Unit {0})
+honours rs r e = subst (λ a. Cases a (λ _. Honoured (fieldLines (drop 4 rs))) (λ _. Unit {0})) (sym e) (held rs (firstWrong [] rs) refl)
