@@ -34,7 +34,7 @@ stats-append : (xs : List FieldLine) (x : FieldLine) → statLines (xs ++ x ∷ 
 stats-append [] x = omega arith
 stats-append (y ∷ xs) x = omega (arith, stats-append xs x)
 
-going : (xs : List FieldLine) (x : FieldLine) (o : Option FieldLine) → goesOn o x ≡ true → lacks xs o ≡ missing xs (x .template) (fieldsOf (x .kind))
+pub going : (xs : List FieldLine) (x : FieldLine) (o : Option FieldLine) → goesOn o x ≡ true → lacks xs o ≡ missing xs (x .template) (fieldsOf (x .kind))
 going xs x None h = absurd (false≢true h)
 going xs x (Some y) h =
     let p = and-parts (eqb (y .template) (x .template)) (sameKind (y .kind) (x .kind)) h in

@@ -9,3 +9,5 @@ pub mod Keeps
 pub mod Progress
 pub mod Layouts
 pub mod Builds
+pub mod Judges
+pub mod Honours

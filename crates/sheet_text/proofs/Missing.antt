@@ -51,7 +51,7 @@ fewer true b = omega arith
 fewer false true = omega arith
 fewer false false = omega arith
 
-missing-no-more : (xs : List FieldLine) (x : FieldLine) (t : ℕ) (fs : List Field) → missing (xs ++ x ∷ []) t fs ≤ missing xs t fs
+pub missing-no-more : (xs : List FieldLine) (x : FieldLine) (t : ℕ) (fs : List Field) → missing (xs ++ x ∷ []) t fs ≤ missing xs t fs
 missing-no-more xs x t [] = omega arith
 missing-no-more xs x t (f ∷ fs) =
     let e : gap (named (xs ++ x ∷ []) t f) ≡ gap (named xs t f || (eqb (x .template) t && sameField (x .field) f)) = ap gap (named-push xs x t f) in

@@ -7,3 +7,4 @@ pub mod Meaning
 pub mod Opening
 pub mod Kept
 pub mod Adding
+pub mod Laws

@@ -11,7 +11,7 @@ use crate::types::FieldLine;
 use crate::types::Kind;
 
 // Whether a line is of that template.
-pub fn is_listed(lines: &[FieldLine], template: u16) -> bool
+pub(crate) fn is_listed(lines: &[FieldLine], template: u16) -> bool
     ensures { λ r. ⌜ r ≡ listed (now (lines .entry)) template ⌝ }
 {
     for x in lines {
@@ -84,7 +84,7 @@ fn last_of(lines: &[FieldLine]) -> Option<FieldLine>
 }
 
 // Whether the template of the last line has all its fields.
-pub fn is_complete(lines: &[FieldLine]) -> bool
+pub(crate) fn is_complete(lines: &[FieldLine]) -> bool
     ensures { λ r. ⌜ r ≡ complete (now (lines .entry)) ⌝ }
 {
     match last_of(lines) {
@@ -109,7 +109,7 @@ fn has_room(lines: &[FieldLine], kind: Kind) -> bool
 }
 
 // Whether a line may stand behind those before it.
-pub fn may_follow(lines: &[FieldLine], x: &FieldLine) -> bool
+pub(crate) fn may_follow(lines: &[FieldLine], x: &FieldLine) -> bool
     ensures { λ r. ⌜ r ≡ mayFollow (now (lines .entry)) (now (x .entry)) ⌝ }
 {
     if is_listed(lines, x.template) {

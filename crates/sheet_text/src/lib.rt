@@ -1,9 +1,9 @@
-pub mod building;
+mod building;
 pub mod filling;
-pub mod follows;
-pub mod line;
-pub mod names;
-pub mod opening;
-pub mod reading;
+mod follows;
+mod line;
+mod names;
+mod opening;
+mod reading;
 pub mod text;
 pub mod types;

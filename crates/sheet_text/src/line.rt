@@ -62,7 +62,7 @@ fn if_sound(x: FieldLine) -> Option<FieldLine>
 }
 
 // Reads a field line: template, kind, field, offset and width, parted by one space.
-pub fn field_line(line: &[u8]) -> Option<FieldLine>
+pub(crate) fn field_line(line: &[u8]) -> Option<FieldLine>
     ensures value { λ r. ⌜ r ≡ fieldLine (now (line .entry)) ⌝ }
     ensures sound { λ r. ⌜ BySome r (Unit {0}) (λ y. sound y ≡ true) ⌝ }
 {

@@ -6,7 +6,7 @@ use crate::types::Kind;
 use layout::width::Width;
 
 // Whether two words are the same.
-pub fn same(a: &[u8], b: &[u8]) -> bool
+pub(crate) fn same(a: &[u8], b: &[u8]) -> bool
     ensures { λ r. ⌜ r ≡ sameBytes (now (a .entry)) (now (b .entry)) ⌝ }
 {
     a == b
@@ -48,21 +48,21 @@ fn field_number(field: Field) -> u8
 }
 
 // Whether two kinds are the same.
-pub fn same_kind(a: Kind, b: Kind) -> bool
+pub(crate) fn same_kind(a: Kind, b: Kind) -> bool
     ensures { λ r. ⌜ r ≡ sameKind a b ⌝ }
 {
     kind_number(a) == kind_number(b)
 }
 
 // Whether two names are the same.
-pub fn same_field(a: Field, b: Field) -> bool
+pub(crate) fn same_field(a: Field, b: Field) -> bool
     ensures { λ r. ⌜ r ≡ sameField a b ⌝ }
 {
     field_number(a) == field_number(b)
 }
 
 // The fields of a kind.
-pub fn fields_of(kind: Kind) -> &'static [Field]
+pub(crate) fn fields_of(kind: Kind) -> &'static [Field]
     ensures { λ r. ⌜ now r ≡ fieldsOf kind ⌝ }
 {
     match kind {
@@ -101,7 +101,7 @@ pub fn fields_of(kind: Kind) -> &'static [Field]
 }
 
 // The kind that a word names.
-pub fn kind(word: &[u8]) -> Option<Kind>
+pub(crate) fn kind(word: &[u8]) -> Option<Kind>
     ensures { λ r. ⌜ r ≡ kindOf (now (word .entry)) ⌝ }
 {
     if same(word, b"order") {
@@ -124,7 +124,7 @@ pub fn kind(word: &[u8]) -> Option<Kind>
 }
 
 // The field that a word names.
-pub fn field(word: &[u8]) -> Option<Field>
+pub(crate) fn field(word: &[u8]) -> Option<Field>
     ensures { λ r. ⌜ r ≡ fieldOf (now (word .entry)) ⌝ }
 {
     if same(word, b"security") {
@@ -161,7 +161,7 @@ pub fn field(word: &[u8]) -> Option<Field>
 }
 
 // The width that a word names.
-pub fn width(word: &[u8]) -> Option<Width>
+pub(crate) fn width(word: &[u8]) -> Option<Width>
     ensures { λ r. ⌜ r ≡ widthOf (now (word .entry)) ⌝ }
 {
     if same(word, b"1") {

@@ -66,7 +66,7 @@ fn action_line<'a>(text: &'a [u8]) -> Option<(Actions, &'a [u8])>
 }
 
 // The actions of a text, and what is behind its first four lines.
-pub fn opening<'a>(text: &'a [u8]) -> Result<(Actions, &'a [u8]), SheetFault>
+pub(crate) fn opening<'a>(text: &'a [u8]) -> Result<(Actions, &'a [u8]), SheetFault>
     ensures value { λ r. ⌜ Cases r (λ p. ((line : List ℕ) × ((rows (now (text .entry)) ≡ openingRows line ++ rows (now (p .1))) × (actionsOf line ≡ Some (p .0))))) (λ e. firstWrong [] (rows (now (text .entry))) ≡ Some (e .line)) ⌝ }
     ensures different { λ r. ⌜ Cases r (λ p. different (p .0) ≡ true) (λ _. Unit {0}) ⌝ }
 {

@@ -20,7 +20,7 @@ pub fn cut<'a>(s: &'a [u8], b: u8) -> Option<(&'a [u8], &'a [u8])>
 }
 
 // The first line of a text and what is behind it, where the line has its line feed and at most 64 bytes before it.
-pub fn next_line<'a>(text: &'a [u8]) -> Option<(&'a [u8], &'a [u8])>
+pub(crate) fn next_line<'a>(text: &'a [u8]) -> Option<(&'a [u8], &'a [u8])>
     ensures value { λ r. ⌜ BySome r (startsWell (rows (now (text .entry))) ≡ false) (λ p. rows (now (text .entry)) ≡ Some (now (p .0)) ∷ rows (now (p .1))) ⌝ }
     ensures shorter { λ r. ⌜ BySome r (Unit {0}) (λ p. length (now (p .1)) < length (now (text .entry))) ⌝ }
 {
@@ -59,7 +59,7 @@ fn figures(most: u16, word: &[u8]) -> Option<u16>
 }
 
 // Figures in base ten without leading zeros, of a number that is at most `most`.
-pub fn number(most: u16, word: &[u8]) -> Option<u16>
+pub(crate) fn number(most: u16, word: &[u8]) -> Option<u16>
     ensures { λ r. ⌜ r ≡ numberOf most (now (word .entry)) ⌝ }
 {
     let [first, rest @ ..] = word else {

@@ -1,12 +1,13 @@
-use mathlib.Core.Path.{_≡_, sym, ap, subst, _∙_}
-use native.Mathlib.Nat.{sub-zero}
-use lib.ListN.{take}
-use Rattle.sheet_text.specs.Kept.{Kept}
+use Rattle.sheet_text.specs.Text.{rows}
+use Rattle.sheet_text.proofs.Judges.{judges}
+use Rattle.sheet_text.proofs.Honours.{honours}
 use Rattle.sheet_text.proofs.filling.fill.Needs as need
 
-pub build-requires : need.build-requires
-build-requires c κs =
+pub returns : need.returns
+returns c =
     record {
-      kept = subst (λ k. Kept (take k (c .read-fields .last .lines))) (sym (sub-zero (c .in-Continue-n .n))) (c .in-Continue-n .ensures tt .found .2);
-      different = c .in-Continue-actions .ensures tt .different;
+      answer = c .load .ensures .answer;
+      filled = c .load .ensures .filled;
+      judged = judges (rows (c .args .text .now)) (c .load .result) (c .load .ensures .answer);
+      honoured = honours (rows (c .args .text .now)) (c .load .result) (c .load .ensures .answer);
     }
