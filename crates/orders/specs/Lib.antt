@@ -4,3 +4,4 @@ pub mod Staged
 pub mod Kind
 pub mod Image
 pub mod ImageLaw
+pub mod Rows

@@ -1,1 +1,3 @@
 pub mod due;
+pub mod edits;
+pub mod rows;
