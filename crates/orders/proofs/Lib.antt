@@ -1,2 +1,5 @@
 pub mod Spans
 pub mod Putting
+pub mod Fitting
+pub mod Messages
+pub mod BothSides

@@ -30,3 +30,11 @@ pub record Puts (s t : Rows) (r : ℕ) (l : List Order) : Type 0 where
   pub held : Held t
   pub depth : t .depth ≡ s .depth
   pub count : t .count ≡ s .count
+
+-- the book v has come to place k, and all else is as it was
+pub record PutsBook (s t : Rows) (k : ℕ) (v : Book) : Type 0 where
+  pub here : bookAt t k ≡ v
+  pub others : (j : ℕ) → 2 * j + 1 < s .count → (j ≡ k → ⊥) → bookAt t j ≡ bookAt s j
+  pub held : Held t
+  pub depth : t .depth ≡ s .depth
+  pub count : t .count ≡ s .count

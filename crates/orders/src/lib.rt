@@ -1,3 +1,5 @@
+pub mod books;
 pub mod due;
 pub mod edits;
 pub mod rows;
+pub mod sides;
