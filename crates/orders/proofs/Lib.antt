@@ -3,3 +3,4 @@ pub mod Putting
 pub mod Fitting
 pub mod Messages
 pub mod BothSides
+pub mod Fresh

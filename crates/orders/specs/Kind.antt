@@ -17,6 +17,9 @@ pub record Setup : Type 0 where
   pub actions : Actions
   pub depth : ℕ
 
+abbrev pub setup : Actions → ℕ → Setup
+setup a d = record { actions = a; depth = d }
+
 abbrev pub fitsBook : Setup → Book → Body → Bool
 fitsBook o v (put f) = isSide (f .side) && fitsOrder (o .actions) (o .depth) (length (sideOf v (f .side))) f
 fitsBook o v (delete f) = isSide (f .side) && taken (length (sideOf v (f .side))) (f .position)

@@ -5,3 +5,5 @@ pub mod Kind
 pub mod Image
 pub mod ImageLaw
 pub mod Rows
+pub mod Opening
+pub mod Model

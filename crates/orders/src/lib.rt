@@ -1,5 +1,9 @@
 pub mod books;
+pub mod calls;
 pub mod due;
 pub mod edits;
+pub mod opening;
+pub mod order_store;
 pub mod rows;
+pub mod side;
 pub mod sides;
