@@ -4,3 +4,5 @@ pub mod Fitting
 pub mod Messages
 pub mod BothSides
 pub mod Fresh
+pub mod Slots
+pub mod Answering

@@ -1,7 +1,7 @@
 ghost use mathlib.Core.Path.{_≡_};
 ghost use mathlib.Core.Bool.{cond};
 ghost use mathlib.Core.List.{_++_, _∷_, []};
-ghost use Prim.Native.Nat.{_+_, _-_, _<_};
+ghost use Prim.Native.Nat.{_+_, _-_, _<_, _≤_};
 ghost use lib.ListN.{length};
 ghost use Rattle.positions.specs.Positions.{fitsInsert, fitsChange, fitsCut, insertedAt, changedAt, cutOut};
 ghost use Rattle.orders.specs.Rows.{Held, Puts, row};
@@ -13,7 +13,8 @@ impl<'t> Rows<'t> {
     // How many orders a row has.
     pub(crate) fn len(&self, r: usize) -> usize
         requires { ⌜ Held (now self) ⌝ ∗ ⌜ r < now self .count ⌝ }
-        ensures { λ n. ⌜ n ≡ length (row (now (self .entry)) r) ⌝ }
+        ensures len { λ n. ⌜ n ≡ length (row (now (self .entry)) r) ⌝ }
+        ensures room { λ n. ⌜ n ≤ now (self .entry) .depth ⌝ }
     {
         self.lens[r]
     }

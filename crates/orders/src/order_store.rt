@@ -16,6 +16,7 @@ pub struct OrderStore<'t> {
     pub(crate) owed: Due,
     ghost lens: { length (rows .lens) ≡ 130 },
     ghost few: { slots ≤ 64 },
+    ghost shallow: { rows .depth ≤ 1024 },
     ghost count: { rows .count ≡ 2 * slots + 2 },
     ghost table: { rows .count * rows .depth ≤ length (now (rows .table)) },
     ghost within: { (r : ℕ) → r < rows .count → getD (rows .lens) r 0 ≤ rows .depth },

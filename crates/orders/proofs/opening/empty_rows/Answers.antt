@@ -10,5 +10,5 @@ returns c =
     record {
       held = record { lens = refl; count = c .pre .0; table = c .pre .1; within = λ r b. omega (arith, zeros 130 r) };
       rows = λ r. ap (λ n. take n (drop (r * c .args .depth) (c .args .table .now))) (zeros 130 r);
-      size = (refl, refl)
+      size = (refl, refl);
     }

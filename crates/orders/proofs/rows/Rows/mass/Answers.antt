@@ -12,5 +12,5 @@ pub returns-then-f-from-2 : need.returns-then-f-from-2
 returns-then-f-from-2 c =
     let d = c .cut-then-f-from-2 in
     let l = mass-bottom (c .args .self .now) (d .last .self) (c .args .r) (d .result) (c .pre .0) (c .pre .1) (c .args .a) (c .args .f .now)
-    (c .len-n .result) (c .len-n .ensures) (λ e. c .if-f-from .left (e ∙ sym (c .from .ensures))) (c .if-f-from-2 .taken ∙ c .from-2 .ensures) (d .ensures .fits) (d .ensures .puts) in
+    (c .len-n .result) (c .len-n .ensures .len) (λ e. c .if-f-from .left (e ∙ sym (c .from .ensures))) (c .if-f-from-2 .taken ∙ c .from-2 .ensures) (d .ensures .fits) (d .ensures .puts) in
     record { fits = l .0; puts = l .1 }
