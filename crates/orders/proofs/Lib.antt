@@ -6,3 +6,4 @@ pub mod BothSides
 pub mod Fresh
 pub mod Slots
 pub mod Answering
+pub mod Showing

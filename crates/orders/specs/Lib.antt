@@ -7,3 +7,4 @@ pub mod ImageLaw
 pub mod Rows
 pub mod Opening
 pub mod Model
+pub mod Shown

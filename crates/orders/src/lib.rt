@@ -7,5 +7,6 @@ pub mod entries;
 pub mod opening;
 pub mod order_store;
 pub mod rows;
+pub mod shows;
 pub mod side;
 pub mod sides;
