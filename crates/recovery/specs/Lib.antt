@@ -1,0 +1,11 @@
+pub mod Faults
+pub mod Shelf
+pub mod Reading
+pub mod Books
+pub mod State
+pub mod Answers
+pub mod Updates
+pub mod Incremental
+pub mod Groups
+pub mod Log
+pub mod Steps

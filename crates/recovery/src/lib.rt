@@ -1,0 +1,3 @@
+pub mod answers;
+pub mod fault;
+pub mod marks;
