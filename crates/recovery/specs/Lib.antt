@@ -9,3 +9,7 @@ pub mod Incremental
 pub mod Groups
 pub mod Log
 pub mod Steps
+pub mod Calls
+pub mod Publisher
+pub mod Reach
+pub mod Guarantee
