@@ -1,0 +1,3 @@
+pub mod Basics
+pub mod Course
+pub mod Way
