@@ -1,3 +1,4 @@
 pub mod Basics
 pub mod Course
 pub mod Way
+pub mod Books
