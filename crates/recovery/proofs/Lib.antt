@@ -2,3 +2,4 @@ pub mod Basics
 pub mod Course
 pub mod Way
 pub mod Books
+pub mod Kin
