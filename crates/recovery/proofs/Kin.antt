@@ -140,7 +140,7 @@ module _ {V O : Type 0} (K : Kind V O) (P : Publisher) (Image : HeaderFields →
   base-group l s r g p b = record { heard = b .heard; there = b .there; joined = b .joined; follow = b .follow; place = b .place; room = b .room; shelf = b .shelf; books = b .books }
 
   module _ (l : Followed) (fs : List Event) (p : Parts) (s : State V O) (r : Reach) (b : Base l s r) (g : GoodOpen fs p (s .rest)) where
-    wanted-news : wanted K o (groupOf (p .of) (p .header)) s ≡ news K o p r
+    pub wanted-news : wanted K o (groupOf (p .of) (p .header)) s ≡ news K o p r
     wanted-news =
       let w = b .books (p .of) (g .0) .1 in
       rw (lt-ltb (slotOf o (p .of)) (s .rest .room) (omega (arith, ltb-true _ _ (g .0), b .room)), b .heard, ← w) (news-test (s .books (slotOf o (p .of)) .mark) (p .header .last) (s .plain .heard))

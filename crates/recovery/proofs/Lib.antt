@@ -3,3 +3,5 @@ pub mod Course
 pub mod Way
 pub mod Books
 pub mod Kin
+pub mod Walks
+pub mod Tells
