@@ -5,3 +5,4 @@ pub mod Books
 pub mod Kin
 pub mod Walks
 pub mod Tells
+pub mod Verdicts
