@@ -6,3 +6,4 @@ pub mod Kin
 pub mod Walks
 pub mod Tells
 pub mod Verdicts
+pub mod Runs
