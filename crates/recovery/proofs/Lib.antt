@@ -7,3 +7,4 @@ pub mod Walks
 pub mod Tells
 pub mod Verdicts
 pub mod Runs
+pub mod Recovers
