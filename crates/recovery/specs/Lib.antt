@@ -1,0 +1,15 @@
+pub mod Faults
+pub mod Shelf
+pub mod Reading
+pub mod Books
+pub mod State
+pub mod Answers
+pub mod Updates
+pub mod Incremental
+pub mod Groups
+pub mod Log
+pub mod Steps
+pub mod Calls
+pub mod Publisher
+pub mod Reach
+pub mod Guarantee
