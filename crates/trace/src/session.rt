@@ -9,13 +9,8 @@ use packet::rules::check;
 use refusal::Layer;
 use refusal::Refusal;
 use refusal::RefusalDisplay;
-<<<<<<< HEAD
-use sheet_text::text::cut;
 use sheet_text::filling::fill;
-=======
-use sheet_text::fill::fill;
 use sheet_text::text::cut;
->>>>>>> bbd9de23f9991b6ee8abe5eaab1ba931aca7e4c3
 use std::alloc::AllocError;
 use std::alloc::Global;
 use std::error::AnyError;
