@@ -1,6 +1,6 @@
-pub mod order;
 pub mod fault;
 pub mod format;
 pub mod frame;
-pub mod read;
 pub mod network;
+pub mod order;
+pub mod read;

@@ -24,5 +24,89 @@ fn udp<'a>(time: u64, address: u32, segment: &'a [u8]) -> Frame<'a>
     if segment.len() < length {
         return Frame::Cut;
     }
-    Frame::Datagram(Datagram { time, address, port: two(segment, 2), payload: &segment[8..length] })
+    Frame::Datagram(Datagram {
+        time,
+        address,
+        port: two(segment, 2),
+        payload: &segment[8..length],
+    })
+}
+
+// Whether the first byte and the lengths are those of an IPv4 packet.
+fn is_ipv4(packet: &[u8]) -> bool
+    requires { ⌜ 20 ≤ length (now packet) ⌝ }
+    ensures { λ r. ⌜ r ≡ isIpv4 (now (packet .entry)) ⌝ }
+{
+    let header = 4 * usize::from(packet[0] % 16);
+    packet[0] / 16 == 4 && header >= 20 && header <= usize::from(two(packet, 2))
+}
+
+// The datagram of an IPv4 packet, which padding may follow.
+fn ipv4<'a>(time: u64, packet: &'a [u8]) -> Frame<'a>
+    ensures { λ r. ⌜ view r ≡ ipv4Held time (now (packet .entry)) ⌝ }
+{
+    if packet.len() < 20 {
+        return Frame::Cut;
+    }
+    if !is_ipv4(packet) || packet[9] != 17 {
+        return Frame::NoUdp;
+    }
+    if two(packet, 6) % 16384 != 0 {
+        return Frame::Fragment;
+    }
+    let header = 4 * usize::from(packet[0] % 16);
+    let total = usize::from(two(packet, 2));
+    if packet.len() < total {
+        return Frame::Cut;
+    }
+    udp(
+        time,
+        four(ByteOrder::Big, packet, 16),
+        &packet[header..total],
+    )
+}
+
+// Whether a tag stands at the front.
+fn is_tag(bytes: &[u8]) -> bool
+    ensures { λ r. ⌜ r ≡ isTag (now (bytes .entry)) ⌝ }
+{
+    if bytes.len() < 2 {
+        return false;
+    }
+    let kind = two(bytes, 0);
+    kind == 0x8100 || kind == 0x88a8 || kind == 0x9100
+}
+
+// What stands behind all tags.
+fn behind_tags<'a>(bytes: &'a [u8]) -> &'a [u8]
+    ensures { λ r. ⌜ now r ≡ untagged 0 (now (bytes .entry)) ⌝ }
+{
+    let mut rest = bytes;
+    while is_tag(rest) {
+        rest = &rest[rest.len().min(4)..];
+    }
+    rest
+}
+
+// What stands from the type of an Ethernet frame on.
+fn typed<'a>(time: u64, bytes: &'a [u8]) -> Frame<'a>
+    ensures { λ r. ⌜ view r ≡ typedHeld time (now (bytes .entry)) ⌝ }
+{
+    if bytes.len() < 2 {
+        return Frame::Cut;
+    }
+    if two(bytes, 0) != 0x0800 {
+        return Frame::NoUdp;
+    }
+    ipv4(time, &bytes[2..])
+}
+
+// What a frame holds that was captured whole.
+pub fn datagram<'a>(link: Link, time: u64, frame: &'a [u8]) -> Frame<'a>
+    ensures { λ r. ⌜ view r ≡ linkHeld link time (now (frame .entry)) ⌝ }
+{
+    match link {
+        Link::Ethernet => typed(time, behind_tags(&frame[frame.len().min(12)..])),
+        Link::RawIp => ipv4(time, frame),
+    }
 }
