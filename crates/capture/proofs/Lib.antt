@@ -1,2 +1,4 @@
 pub mod Parts
 pub mod Tags
+pub mod Fronts
+pub mod Windows

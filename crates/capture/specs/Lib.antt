@@ -1,3 +1,6 @@
 pub mod Numbers
 pub mod Held
 pub mod Network
+pub mod Header
+pub mod Records
+pub mod Window

@@ -47,9 +47,9 @@ ipv4Held time p =
     (udpHeld time (bigAt p 16 4) (take (totalLength p - headerLength p) (drop (headerLength p) p)))))
     noUdp)
 
--- the type of a tag: 8100, 88a8 or 9100 in hexadecimal
+-- the types of tags
 abbrev pub tagType : ℕ → Bool
-tagType t = eqb t 33024 || (eqb t 34984 || eqb t 37120)
+tagType t = eqb t 0x8100 || (eqb t 0x88a8 || eqb t 0x9100)
 
 abbrev pub isTag : List ℕ → Bool
 isTag bs = leb 2 (length bs) && tagType (bigAt bs 0 2)
@@ -60,9 +60,9 @@ untagged skip [] = []
 untagged (suc k) (b ∷ bs) = untagged k bs
 untagged zero (b ∷ bs) = cond (isTag (b ∷ bs)) (untagged 3 bs) (b ∷ bs)
 
--- what stands from the type on: 0800 in hexadecimal is IPv4
+-- what stands from the type on, where 0x0800 says IPv4
 abbrev pub typedHeld : ℕ → List ℕ → Held
-typedHeld time t = cond (ltb (length t) 2) cut (cond (eqb (bigAt t 0 2) 2048) (ipv4Held time (drop 2 t)) noUdp)
+typedHeld time t = cond (ltb (length t) 2) cut (cond (eqb (bigAt t 0 2) 0x0800) (ipv4Held time (drop 2 t)) noUdp)
 
 -- an Ethernet frame has two addresses of six bytes at its front
 abbrev pub linkHeld : Link → ℕ → List ℕ → Held

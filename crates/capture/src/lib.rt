@@ -1,6 +1,9 @@
 pub mod fault;
 pub mod format;
 pub mod frame;
+pub mod header;
 pub mod network;
 pub mod order;
 pub mod read;
+pub mod record;
+pub mod step;
