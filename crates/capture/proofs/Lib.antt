@@ -2,3 +2,4 @@ pub mod Parts
 pub mod Tags
 pub mod Fronts
 pub mod Windows
+pub mod Walks

@@ -4,3 +4,4 @@ pub mod Network
 pub mod Header
 pub mod Records
 pub mod Window
+pub mod Walk

@@ -60,7 +60,11 @@ contents f (suc k) (b ∷ bs) at = contents f k bs at
 contents f zero (b ∷ bs) at =
     onward (sizeOf f (b ∷ bs) at) (recordHeld f (b ∷ bs)) (λ n. contents f (n - 1) bs (at + n))
 
--- what a file holds
-abbrev pub fileHolds : Result Format CaptureFault → List ℕ → List (Result Held CaptureFault)
-fileHolds (Ok f) bs = contents f 0 (drop 24 bs) 24
-fileHolds (Err e) bs = Err e ∷ []
+-- what a file holds behind its header
+abbrev pub holdsBy : Result Format CaptureFault → List ℕ → List (Result Held CaptureFault)
+holdsBy (Ok f) bs = contents f 0 (drop 24 bs) 24
+holdsBy (Err e) bs = Err e ∷ []
+
+-- what a file holds, record by record; a fault comes last
+abbrev pub fileHolds : List ℕ → List (Result Held CaptureFault)
+fileHolds bs = holdsBy (formatOf bs) bs

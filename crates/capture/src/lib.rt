@@ -1,4 +1,5 @@
 pub mod fault;
+pub mod file;
 pub mod format;
 pub mod frame;
 pub mod header;
@@ -7,3 +8,4 @@ pub mod order;
 pub mod read;
 pub mod record;
 pub mod step;
+pub mod walk;
