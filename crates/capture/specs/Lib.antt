@@ -4,4 +4,5 @@ pub mod Network
 pub mod Header
 pub mod Records
 pub mod Window
+pub mod Tally
 pub mod Walk

@@ -1,3 +1,4 @@
+pub mod count;
 pub mod fault;
 pub mod file;
 pub mod format;
@@ -8,4 +9,5 @@ pub mod order;
 pub mod read;
 pub mod record;
 pub mod step;
+pub mod tally;
 pub mod walk;
