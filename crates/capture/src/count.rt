@@ -64,8 +64,8 @@ fn drain(mut capture: Capture, mut tally: Tally) -> Tally
         match capture.next() {
             Ok(Some(frame)) => tally.note(&frame),
             Ok(None) => return tally,
-            Err(fault) => {
-                tally.end(fault);
+            Err(last) => {
+                tally.end(last);
                 return tally;
             }
         }
