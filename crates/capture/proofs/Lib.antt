@@ -3,3 +3,4 @@ pub mod Tags
 pub mod Fronts
 pub mod Windows
 pub mod Walks
+pub mod Sendings

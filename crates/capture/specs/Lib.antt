@@ -1,6 +1,7 @@
 pub mod Numbers
 pub mod Held
 pub mod Network
+pub mod Sent
 pub mod Header
 pub mod Records
 pub mod Window

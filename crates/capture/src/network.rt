@@ -2,6 +2,7 @@ ghost use mathlib.Core.Path.{_≡_};
 ghost use Prim.Native.Nat.{_+_, _≤_};
 ghost use lib.ListN.{length};
 ghost use Rattle.capture.specs.Held.{view};
+ghost use Rattle.capture.specs.Sent.{Sent, Sendable, sentOver, arrived};
 ghost use Rattle.capture.specs.Network.{udpHeld, ipv4Held, isIpv4, isUdp, isFragment, isTag, untagged, typedHeld, linkHeld};
 use crate::format::Link;
 use crate::frame::Datagram;
@@ -101,12 +102,20 @@ fn typed<'a>(time: u64, bytes: &'a [u8]) -> Frame<'a>
     ipv4(time, &bytes[2..])
 }
 
-// What a frame holds that was captured whole.
-pub fn datagram<'a>(link: Link, time: u64, frame: &'a [u8]) -> Frame<'a>
+// What stands in a frame of a link type.
+fn linked<'a>(link: Link, time: u64, frame: &'a [u8]) -> Frame<'a>
     ensures { λ r. ⌜ view r ≡ linkHeld link time (now (frame .entry)) ⌝ }
 {
     match link {
         Link::Ethernet => typed(time, behind_tags(&frame[frame.len().min(12)..])),
         Link::RawIp => ipv4(time, frame),
     }
+}
+
+// What a frame holds that was captured whole; a datagram comes out as it was sent.
+pub fn datagram<'a>(link: Link, time: u64, frame: &'a [u8]) -> Frame<'a>
+    ensures value { λ r. ⌜ view r ≡ linkHeld link time (now (frame .entry)) ⌝ }
+    ensures sent { λ r. ⌜ ((s : Sent) → Sendable s → now (frame .entry) ≡ sentOver link s → view r ≡ arrived time s) ⌝ }
+{
+    linked(link, time, frame)
 }

@@ -1,9 +1,11 @@
-use mathlib.Core.Path.{_≡_, refl, sym, ap, _∙_}
-use Rattle.capture.specs.Network.{untagged, typedHeld, linkHeld}
-use Rattle.capture.proofs.Parts.{rest-least}
+use mathlib.Core.Path.{_≡_, ap, _∙_}
+use Rattle.capture.specs.Network.{linkHeld}
+use Rattle.capture.proofs.Sendings.{sent-over}
 use Rattle.capture.proofs.network.datagram.Needs as need
 
-pub returns-in-Ethernet : need.returns-in-Ethernet
-returns-in-Ethernet c =
-    let behind = c .behind-tags .ensures ∙ ap (untagged 0) (rest-least (c .args .frame .now) (c .min .result) 12 (c .min .ensures)) in
-    c .typed-2 .ensures ∙ (ap (typedHeld (c .args .time)) behind ∙ ap (λ l. linkHeld l (c .args .time) (c .args .frame .now)) (sym (c .in-Ethernet .is)))
+pub returns : need.returns
+returns c =
+    record {
+      value = c .linked .ensures;
+      sent = λ s k is. c .linked .ensures ∙ (ap (linkHeld (c .args .link) (c .args .time)) is ∙ sent-over (c .args .link) (c .args .time) s k);
+    }

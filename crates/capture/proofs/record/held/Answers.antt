@@ -6,4 +6,4 @@ use Rattle.capture.proofs.record.held.Needs as need
 
 pub returns : need.returns
 returns c =
-    held-whole (c .args .format) (c .args .window .now) (c .args .size) (c .time .result) (view (c .datagram .result)) (c .pre .0) (omega (arith, c .four .ensures, c .four-2 .ensures)) (c .time .ensures) (c .datagram .ensures)
+    held-whole (c .args .format) (c .args .window .now) (c .args .size) (c .time .result) (view (c .datagram .result)) (c .pre .0) (omega (arith, c .four .ensures, c .four-2 .ensures)) (c .time .ensures) (c .datagram .ensures .value)
