@@ -4,3 +4,4 @@ pub mod Fronts
 pub mod Windows
 pub mod Walks
 pub mod Sendings
+pub mod Joins

@@ -58,7 +58,7 @@ wanted-long m n c at p q = cond-false (ltb m 16) _ _ (le-ltb m 16 p) ∙ sym (co
 wanted-fault : (long c at : ℕ) (e : CaptureFault) → Err e ≡ wantedBy long c at → 16 ≤ long
 wanted-fault long c at e m = grind (arith, tells)
 
-wanted-whole : (long c at n : ℕ) → Ok n ≡ wantedBy long c at → n ≤ long → (16 ≤ long) × (n ≡ 16 + c)
+pub wanted-whole : (long c at n : ℕ) → Ok n ≡ wantedBy long c at → n ≤ long → (16 ≤ long) × (n ≡ 16 + c)
 wanted-whole long c at n m h = (grind (arith, tells), grind (arith, tells))
 
 -- the header tells the same whatever stands behind it
@@ -67,19 +67,19 @@ wanted-front f w r at h =
     let long = length-append w r in
     wanted-long (length (w ++ r)) (length w) (captured f (w ++ r)) at (omega arith) h ∙ ap (λ c. wantedBy (length w) c at) (captured-front f w r h)
 
-size-whole : (f : Format) (bs : List ℕ) (at n : ℕ) → Ok n ≡ wanted f bs at → n ≤ length bs → Ok n ≡ sizeOf f bs at
+pub size-whole : (f : Format) (bs : List ℕ) (at n : ℕ) → Ok n ≡ wanted f bs at → n ≤ length bs → Ok n ≡ sizeOf f bs at
 size-whole f bs at n e h =
     sym (cond-false (ltb (length bs) n) (Err (RecordCut at)) (Ok n) (le-ltb (length bs) n h)) ∙ ap (λ r. andThen r (λ n. cond (ltb (length bs) n) (Err (RecordCut at)) (Ok n))) e
 
-size-cut : (f : Format) (bs : List ℕ) (at n : ℕ) → Ok n ≡ wanted f bs at → length bs < n → Err (RecordCut at) ≡ sizeOf f bs at
+pub size-cut : (f : Format) (bs : List ℕ) (at n : ℕ) → Ok n ≡ wanted f bs at → length bs < n → Err (RecordCut at) ≡ sizeOf f bs at
 size-cut f bs at n e h =
     sym (cond-true (ltb (length bs) n) (Err (RecordCut at)) (Ok n) (lt-ltb (length bs) n h)) ∙ ap (λ r. andThen r (λ n. cond (ltb (length bs) n) (Err (RecordCut at)) (Ok n))) e
 
-size-fault : (f : Format) (bs : List ℕ) (at : ℕ) (e : CaptureFault) → Err e ≡ wanted f bs at → Err e ≡ sizeOf f bs at
+pub size-fault : (f : Format) (bs : List ℕ) (at : ℕ) (e : CaptureFault) → Err e ≡ wanted f bs at → Err e ≡ sizeOf f bs at
 size-fault f bs at e m = ap (λ r. andThen r (λ n. cond (ltb (length bs) n) (Err (RecordCut at)) (Ok n))) m
 
 -- a window that holds the record
-agrees-taken : (f : Format) (w rest : List ℕ) (at n : ℕ) → Ok n ≡ wanted f w at → n ≤ length w → Agrees f w rest at (Ok (taken (recordHeld f w) n))
+pub agrees-taken : (f : Format) (w rest : List ℕ) (at n : ℕ) → Ok n ≡ wanted f w at → n ≤ length w → Agrees f w rest at (Ok (taken (recordHeld f w) n))
 agrees-taken f w rest at n e h =
     let is = wanted-whole (length w) (captured f w) at n e h in
     let long = length-append w rest in

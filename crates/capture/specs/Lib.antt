@@ -4,6 +4,7 @@ pub mod Network
 pub mod Sent
 pub mod Header
 pub mod Records
+pub mod Joined
 pub mod Window
 pub mod Tally
 pub mod Walk

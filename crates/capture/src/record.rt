@@ -5,6 +5,7 @@ ghost use Prim.Native.Nat.{ℕ, _+_, _≤_};
 ghost use lib.ListN.{length};
 ghost use Rattle.std.specs.Vec.{made};
 ghost use Rattle.capture.specs.Held.{view};
+ghost use Rattle.capture.specs.Joined.{RecordsJoin};
 ghost use Rattle.capture.specs.Records.{captured, timeOf, recordHeld, wanted};
 ghost use Rattle.capture.specs.Window.{seen, stepOf, Agrees};
 use crate::fault::CaptureFault;
@@ -89,6 +90,7 @@ pub fn step<'a>(
 ) -> Result<Step<'a>, CaptureFault>
     ensures value { λ r. ⌜ seen r ≡ stepOf format (now (window .entry)) offset last ⌝ }
     ensures file { λ r. ⌜ ((rest : List ℕ) → (last ≡ true → rest ≡ []) → Agrees format (now (window .entry)) rest offset (seen r)) ⌝ }
+    ensures joins { λ _. ⌜ RecordsJoin ⌝ }
 {
     shown(format, window, offset, last)
 }
