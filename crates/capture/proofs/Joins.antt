@@ -32,7 +32,7 @@ joins-one f a b at n m h fine more =
     let is = wanted-whole (length a) (captured f a) at n m h in
     let here = contents-next f a at n (omega arith) (omega arith) (size-whole f a at n m h) in
     let rest = more (sym (ap faultless here) ∙ fine) in
-    let both = agrees-taken f a b at n m h .1 in
+    let both = agrees-taken f a b at n m h .2 in
     let long : (at + n) + length (drop n a) ≡ at + length a = omega (arith, length-drop n a) in
     both
     ∙ ap (λ x. Ok (recordHeld f a) ∷ x) (rest ∙ ap (λ k. contents f 0 (drop n a) (at + n) ++ contents f 0 b k) long)

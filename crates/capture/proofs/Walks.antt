@@ -33,7 +33,7 @@ left-fault f w bs at x y e is a = whole f w (drop at bs) at e ∙ found f w at (
 pub left-taken : (f : Format) (w bs : List ℕ) (at n : ℕ) (h : Held) (m : Result Move CaptureFault) → w ≡ drop at bs → m ≡ Ok (taken h n) → Agrees f w [] at m → contents f 0 (drop at bs) at ≡ Ok h ∷ contents f 0 (drop (at + n) bs) (at + n)
 left-taken f w bs at n h m e is a =
     let b = found f w at m (Ok (taken h n)) is a in
-    whole f w (drop at bs) at e ∙ (b .1 ∙ ap (λ x. Ok h ∷ contents f 0 x (at + n)) (append-nil (drop n w) ∙ (ap (drop n) e ∙ drop-drop n at bs)))
+    whole f w (drop at bs) at e ∙ (b .2 ∙ ap (λ x. Ok h ∷ contents f 0 x (at + n)) (append-nil (drop n w) ∙ (ap (drop n) e ∙ drop-drop n at bs)))
 
 -- a step that ends with a fault
 pub stepped-fault : (c after : Capture) (r : Result (Option Frame) CaptureFault) (x : CaptureFault) → r ≡ Err x → left c ≡ Err x ∷ [] → after ≡ c → Stepped c r after

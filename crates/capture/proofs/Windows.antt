@@ -61,6 +61,9 @@ wanted-fault long c at e m = grind (arith, tells)
 pub wanted-whole : (long c at n : ℕ) → Ok n ≡ wantedBy long c at → n ≤ long → (16 ≤ long) × (n ≡ 16 + c)
 wanted-whole long c at n m h = (grind (arith, tells), grind (arith, tells))
 
+wanted-bound : (long c at n : ℕ) → Ok n ≡ wantedBy long c at → n ≤ 262160
+wanted-bound long c at n m = grind (arith, tells)
+
 -- the header tells the same whatever stands behind it
 wanted-front : (f : Format) (w r : List ℕ) (at : ℕ) → 16 ≤ length w → wanted f (w ++ r) at ≡ wanted f w at
 wanted-front f w r at h =
@@ -86,15 +89,28 @@ agrees-taken f w rest at n e h =
     let size = size-whole f (w ++ rest) at n (e ∙ sym (wanted-front f w rest at (is .0))) (omega arith) in
     let next = contents-next f (w ++ rest) at n (omega arith) (omega arith) size in
     let held = held-front f w rest (is .0) (omega arith) in
-    (h, next ∙ (ap (λ x. Ok x ∷ contents f 0 (drop n (w ++ rest)) (at + n)) held ∙ ap (λ x. Ok (recordHeld f w) ∷ contents f 0 x (at + n)) (drop-append-le n w rest h)))
+    (h, omega arith, next ∙ (ap (λ x. Ok x ∷ contents f 0 (drop n (w ++ rest)) (at + n)) held ∙ ap (λ x. Ok (recordHeld f w) ∷ contents f 0 x (at + n)) (drop-append-le n w rest h)))
+
+-- fewer bytes than a header wants
+wanted-first : (f : Format) (w : List ℕ) (at n : ℕ) → Ok n ≡ wanted f w at → length w < 16 → n ≡ 16
+wanted-first f w at n e h = grind (arith, tells)
+
+more-short : (f : Format) (bs : List ℕ) (at : ℕ) → 0 < length bs → length bs < 16 → contents f 0 bs at ≡ Err (RecordCut at) ∷ []
+more-short f bs at some h =
+    let all : Ok 16 ≡ wanted f bs at = sym (cond-true (ltb (length bs) 16) _ _ (lt-ltb (length bs) 16 h)) in
+    contents-fault f bs at (RecordCut at) some (size-cut f bs at 16 all h)
+
+more-long : (f : Format) (w rest : List ℕ) (at n : ℕ) → Ok n ≡ wanted f w at → 16 ≤ length w → 0 < length (w ++ rest) → length (w ++ rest) < n → contents f 0 (w ++ rest) at ≡ Err (RecordCut at) ∷ []
+more-long f w rest at n e long some few =
+    contents-fault f (w ++ rest) at (RecordCut at) some (size-cut f (w ++ rest) at n (e ∙ sym (wanted-front f w rest at long)) few)
 
 -- a window that ends before the record, in a file that goes on
 agrees-more : (f : Format) (w rest : List ℕ) (at n : ℕ) → Ok n ≡ wanted f w at → length w < n → Agrees f w rest at (Ok (more n))
-agrees-more f w rest at n e h =
-    (h, λ some few. ⊎-elim (λ short. let sixteen = first f w at n e short in let all : Ok 16 ≡ wanted f (w ++ rest) at = sym (cond-true (ltb (length (w ++ rest)) 16) _ _ (lt-ltb (length (w ++ rest)) 16 (omega arith))) in contents-fault f (w ++ rest) at (RecordCut at) some (size-cut f (w ++ rest) at 16 all (omega arith))) (λ long. contents-fault f (w ++ rest) at (RecordCut at) some (size-cut f (w ++ rest) at n (e ∙ sym (wanted-front f w rest at long)) few)) (cases-lt (length w) 16))
-  where
-    first : (f : Format) (w : List ℕ) (at n : ℕ) → Ok n ≡ wanted f w at → length w < 16 → n ≡ 16
-    first f w at n e h = grind (arith, tells)
+agrees-more f w rest at n e h = (
+  h,
+  wanted-bound (length w) (captured f w) at n e,
+  λ some few. ⊎-elim (λ short. let first = wanted-first f w at n e short in more-short f (w ++ rest) at some (omega arith)) (λ long. more-long f w rest at n e long some few) (cases-lt (length w) 16),
+)
 
 -- a window that ends before the record, as the file does
 agrees-cut : (f : Format) (w rest : List ℕ) (at n : ℕ) → rest ≡ [] → 0 < length w → Ok n ≡ wanted f w at → length w < n → Agrees f w rest at (Err (RecordCut at))

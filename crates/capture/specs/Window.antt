@@ -38,11 +38,12 @@ stepOf f window at last =
     cond (ltb (length window) n) (cond last (Err (RecordCut at)) (Ok (more n)))
     (Ok (taken (recordHeld f window) n))))
 
--- what the window shows is what the file holds there, whatever bytes `rest` stand behind the window
+-- what the window shows is what the file holds there, whatever bytes `rest` stand behind the window:
+-- nothing; a record that begins, for which at least n bytes are wanted; a record of n bytes; a fault
 abbrev pub Agrees : Format → List ℕ → List ℕ → ℕ → Result Move CaptureFault → Type 0
 Agrees f window rest at (Ok end) = contents f 0 (window ++ rest) at ≡ []
 Agrees f window rest at (Ok (more n)) =
-    (length window < n) × (0 < length (window ++ rest) → length (window ++ rest) < n → contents f 0 (window ++ rest) at ≡ Err (RecordCut at) ∷ [])
+    (length window < n) × (n ≤ 262160) × (0 < length (window ++ rest) → length (window ++ rest) < n → contents f 0 (window ++ rest) at ≡ Err (RecordCut at) ∷ [])
 Agrees f window rest at (Ok (taken held n)) =
-    (n ≤ length window) × (contents f 0 (window ++ rest) at ≡ Ok held ∷ contents f 0 (drop n window ++ rest) (at + n))
+    (n ≤ length window) × (16 ≤ n) × (contents f 0 (window ++ rest) at ≡ Ok held ∷ contents f 0 (drop n window ++ rest) (at + n))
 Agrees f window rest at (Err e) = contents f 0 (window ++ rest) at ≡ Err e ∷ []
