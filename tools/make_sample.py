@@ -3,7 +3,7 @@
 
     python3 tools/make_sample.py [--seed S] [--packets N] [--out DIR] [--books FILE]
 
-    --seed S      the run is decided by this number alone (default 3)
+    --seed S      the run is decided by this number alone (default 22)
     --packets N   how many incremental packets the publisher sends (default 600: about 1,500 records and 400 kB;
                   250,000 give a capture of 200 MB in about half a minute)
     --out DIR     where day.pcap and day.sheet go (default samples)
@@ -397,7 +397,7 @@ def books_text(publisher):
 
 def main():
     parser = argparse.ArgumentParser(description=__doc__.split("\n")[0])
-    parser.add_argument("--seed", type=int, default=3)
+    parser.add_argument("--seed", type=int, default=22)
     parser.add_argument("--packets", type=int, default=600)
     parser.add_argument("--out", type=pathlib.Path, default=pathlib.Path("samples"))
     parser.add_argument("--books", type=pathlib.Path)
