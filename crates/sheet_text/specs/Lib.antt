@@ -8,3 +8,4 @@ pub mod Opening
 pub mod Kept
 pub mod Adding
 pub mod Laws
+pub mod Refusals

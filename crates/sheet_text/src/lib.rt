@@ -5,5 +5,6 @@ mod line;
 mod names;
 mod opening;
 mod reading;
+mod refusals;
 pub mod text;
 pub mod types;

@@ -6,7 +6,6 @@ use packet::checked::Checked;
 use packet::head::PacketHead;
 use packet::message::Message;
 use packet::rules::check;
-use refusal::Layer;
 use refusal::Refusal;
 use refusal::RefusalDisplay;
 use sheet_text::filling::fill;
@@ -119,7 +118,7 @@ impl Session {
                 let n = self.sheet.templates.len();
                 writeln!(out, "sheet {n}")?;
             }
-            Err(fault) => refused(Refusal { number: 17, layer: Layer::Sheet, place: fault.line }, out)?,
+            Err(fault) => refused(fault.refusal(), out)?,
         }
         Ok(true)
     }
