@@ -35,14 +35,14 @@ module _ (xs ys : Panel) (k n m : ℕ) (l : length xs ≡ 1040) (h : k < 65) (f 
 
 pub puts : (s : Cells) (ys v : Panel) (k m : ℕ) → Held s → k < 65 → m ≡ s .count → length ys ≡ m → ys ≡ v → PutsPanel s (with s (putMid (16 * k) m (s .numbers) ys)) k v
 puts s ys v k m h b w e q = record {
-    here = put-here (s .numbers) ys k (s .count) m (h .numbers) b (h .count) w e ∙ q;
-    others = λ j i ne. ⊎-elim (λ q. absurd (ne q))
+  here = put-here (s .numbers) ys k (s .count) m (h .numbers) b (h .count) w e ∙ q;
+  others = λ j i ne. ⊎-elim (λ q. absurd (ne q))
       (⊎-elim (λ o. put-below (s .numbers) ys k (s .count) m (h .numbers) b (h .count) w j e o) (λ o. put-above (s .numbers) ys k (s .count) m (h .numbers) b (h .count) w j e i o))
       (cases-order j k);
-    numbers = put-length (s .numbers) ys k (s .count) m (h .numbers) b (h .count) w e;
-    templates = refl;
-    count = refl
-  }
+  numbers = put-length (s .numbers) ys k (s .count) m (h .numbers) b (h .count) w e;
+  templates = refl;
+  count = refl;
+}
 
 -- cells that are copied
 module _ (xs : Panel) (j k n m : ℕ) (l : length xs ≡ 1040) (g : j < 65) (h : k < 65) (f : n ≤ 16) (w : m ≡ n) where
@@ -65,9 +65,9 @@ copied s ys j k m h i b w e =
     record {
       here = at k ∙ copied-here (s .numbers) j k n m (h .numbers) i b (h .count) w;
       others = λ o p ne. at o ∙ ⊎-elim (λ q. absurd (ne q))
-        (⊎-elim (λ q. copied-below (s .numbers) j k n m (h .numbers) i b (h .count) w o q) (λ q. copied-above (s .numbers) j k n m (h .numbers) i b (h .count) w o p q))
-        (cases-order o k);
+          (⊎-elim (λ q. copied-below (s .numbers) j k n m (h .numbers) i b (h .count) w o q) (λ q. copied-above (s .numbers) j k n m (h .numbers) i b (h .count) w o p q))
+          (cases-order o k);
       numbers = ap length e ∙ copied-length (s .numbers) j k n m (h .numbers) i b (h .count) w;
       templates = refl;
-      count = refl
+      count = refl;
     }

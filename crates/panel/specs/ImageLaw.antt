@@ -61,7 +61,7 @@ module _ (ts : List ℕ) (v : Panel) (w : length v ≡ length ts) where
   done ps x e all z = same x e (λ k h. all k h ∙ ap (λ a. over a (getD x k None)) (none-found ps (getD ts k 0) (eqb-true _ _ z)))
 
   turned : (t : ℕ) (n : ℤ) (ps : List Part) (x : Panel) (k : ℕ) (b : Bool) → eqb (getD ts k 0) t ≡ b → found t ps ≡ None
-    → getD v k None ≡ over (cond b (Some n) (found (getD ts k 0) ps)) (getD x k None) → getD v k None ≡ over (found (getD ts k 0) ps) (cond b (Some n) (getD x k None))
+      → getD v k None ≡ over (cond b (Some n) (found (getD ts k 0) ps)) (getD x k None) → getD v k None ≡ over (found (getD ts k 0) ps) (cond b (Some n) (getD x k None))
   turned t n ps x k true e o h = h ∙ ap (λ a. over a (Some n)) (sym (ap (λ u. found u ps) (eqb-true _ t e) ∙ o))
   turned t n ps x k false e o h = h
 
@@ -70,17 +70,20 @@ module _ (ts : List ℕ) (v : Panel) (w : length v ≡ length ts) where
   fills [] x e all o = (refl, same x e all)
   fills (entry q ∷ ps) x e all o = (done (entry q ∷ ps) x e all, refl, fills ps x e all o)
   fills (torn ∷ ps) x e all o = absurd o
-  fills (number f ∷ ps) x e all o =
-    (done (number f ∷ ps) x e all, le-leb 1 _ (omega arith),
-     rw (one-less (told ps)) (fills ps (noted ts x (f .template) (f .value)) (noted-length ts x (f .template) (f .value) ∙ e)
-       (λ k h. turned (f .template) (f .value) ps x k _ refl (o .1) (all k h) ∙ ap (over (found (getD ts k 0) ps)) (sym (noted-at ts x (f .template) (f .value) k h e))) (o .2)))
+  fills (number f ∷ ps) x e all o = (
+    done (number f ∷ ps) x e all,
+    le-leb 1 _ (omega arith),
+    rw (one-less (told ps)) (fills ps (noted ts x (f .template) (f .value)) (noted-length ts x (f .template) (f .value) ∙ e)
+        (λ k h. turned (f .template) (f .value) ps x k _ refl (o .1) (all k h) ∙ ap (over (found (getD ts k 0) ps)) (sym (noted-at ts x (f .template) (f .value) k h e))) (o .2)),
+  )
 
 pub panel-image : (ts : List ℕ) → ImageLaw (panel ts) (PanelImage ts)
 unfolding Becomes
-panel-image ts h ps v i =
-    (le-leb _ _ (i .room),
-     rw (i .count) (fills ts v (i .size) ps (noNumbers ts) (length-replicate (length ts) None)
-       (λ k b. i .present k b ∙ sym (ap (over (found (getD ts k 0) ps)) (getD-replicate (length ts) k None None b) ∙ over-none (found (getD ts k 0) ps))) (i .once)))
+panel-image ts h ps v i = (
+  le-leb _ _ (i .room),
+  rw (i .count) (fills ts v (i .size) ps (noNumbers ts) (length-replicate (length ts) None)
+      (λ k b. i .present k b ∙ sym (ap (over (found (getD ts k 0) ps)) (getD-replicate (length ts) k None None b) ∙ over-none (found (getD ts k 0) ps))) (i .once)),
+)
 
 passes : (ts : List ℕ) (v : Panel) (o : ℕ) (p : Part) → concernsPanel p ≡ false → (takesNumber o p ≡ true) × (putNumber ts v p ≡ v) × (lessNumber o p ≡ o)
 passes ts v o (entry e) c = (refl, refl, refl)

@@ -63,5 +63,5 @@ panel ts = record {
   takes = λ v o p. takesNumber o p;
   put = λ v o p. putNumber ts v p;
   less = lessNumber;
-  whole = λ o. eqb o 0
+  whole = λ o. eqb o 0;
 }

@@ -110,7 +110,7 @@ pub impl Store for PanelStore as PanelStoreStore {
         if slot >= 64 {
             return Err(StoreFault::Slot(slot));
         }
-        if self.owed != 0 {
+        if !self.whole() {
             return Err(StoreFault::Owed);
         }
         self.cells.copy_to(0, slot + 1);

@@ -48,6 +48,10 @@ impl Cells {
     {
         let n = self.count;
         let place = 16 * k;
-        number_of(&self.numbers[place..place + n], &self.templates[0..n], template)
+        number_of(
+            &self.numbers[place..place + n],
+            &self.templates[0..n],
+            template,
+        )
     }
 }

@@ -8,8 +8,8 @@ use packet::message::Message;
 use packet::rules::check;
 use refusal::Refusal;
 use refusal::RefusalDisplay;
-use sheet_text::text::cut;
 use sheet_text::fill::fill;
+use sheet_text::text::cut;
 use std::alloc::AllocError;
 use std::alloc::Global;
 use std::error::AnyError;
@@ -57,7 +57,11 @@ fn kind_name(m: &Message) -> &'static str {
 
 // The packet's header and its messages, by start and kind.
 fn list_packet(packet: &Checked, out: &mut String) -> Result<(), AnyError> {
-    let PacketHead { channel, version, number } = packet.head();
+    let PacketHead {
+        channel,
+        version,
+        number,
+    } = packet.head();
     write!(out, "packet {channel} {version} {number}")?;
     let mut walk = packet.walk();
     let mut at = walk.at();
@@ -78,7 +82,11 @@ fn refused(r: Refusal, out: &mut String) -> Result<(), AnyError> {
 impl Session {
     pub fn new(heap: Global) -> Result<Session, AllocError> {
         let sheet = Sheet::blank(heap)?;
-        Ok(Session { sheet, has_sheet: false, bytes: Vec::new(heap) })
+        Ok(Session {
+            sheet,
+            has_sheet: false,
+            bytes: Vec::new(heap),
+        })
     }
 
     // The answer to one line, if it is a command.

@@ -13,4 +13,4 @@ pub returns : need.returns
 returns c =
     let n = length (c .args .numbers .now) in
     ext-getD None (c .loop-k .numbers) (replicate n None) (c .loop-k .kept .numbers ∙ sym (length-replicate n None))
-      (λ j h. c .loop-k .inv j (omega (arith, c .loop-k .kept .numbers, c .loop-k-test .left)) ∙ sym (getD-replicate n j None None (omega (arith, c .loop-k .kept .numbers))))
+    (λ j h. c .loop-k .inv j (omega (arith, c .loop-k .kept .numbers, c .loop-k-test .left)) ∙ sym (getD-replicate n j None None (omega (arith, c .loop-k .kept .numbers))))

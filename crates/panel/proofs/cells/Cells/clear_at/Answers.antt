@@ -18,4 +18,4 @@ returns c =
     let l = length-take-le (s .count) (s .templates) (omega (arith, h .templates, h .count)) in
     let p = length-take-le m (drop (16 * c .args .k) (s .numbers)) (omega (arith, h .numbers, h .count, c .pre .1, length-drop (16 * c .args .k) (s .numbers))) in
     puts s (c .erase .last .numbers) _ (c .args .k) _ (c .pre .0) (c .pre .1) w (search needs)
-      (c .erase .ensures ∙ ap (λ n. replicate n None) (p ∙ (w ∙ sym l)))
+    (c .erase .ensures ∙ ap (λ n. replicate n None) (p ∙ (w ∙ sym l)))

@@ -15,4 +15,4 @@ returns c =
     let w : 16 * c .args .k + c .args .self .now .count - 16 * c .args .k ≡ c .args .self .now .count = omega arith in
     let z : c .args .self .now .count - 0 ≡ c .args .self .now .count = omega arith in
     puts s (c .note .last .numbers) _ (c .args .k) _ (c .pre .0) (c .pre .1) w (search needs)
-      (c .note .ensures ∙ (ap (λ n. noted (take n (s .templates)) (take (16 * c .args .k + s .count - 16 * c .args .k) (drop (16 * c .args .k) (s .numbers))) (f .template) (f .value)) z ∙ ap (λ n. noted (templatesOf s) (take n (drop (16 * c .args .k) (s .numbers))) (f .template) (f .value)) w))
+    (c .note .ensures ∙ (ap (λ n. noted (take n (s .templates)) (take (16 * c .args .k + s .count - 16 * c .args .k) (drop (16 * c .args .k) (s .numbers))) (f .template) (f .value)) z ∙ ap (λ n. noted (templatesOf s) (take n (drop (16 * c .args .k) (s .numbers))) (f .template) (f .value)) w))
