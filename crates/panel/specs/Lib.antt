@@ -5,3 +5,4 @@ pub mod ImageLaw
 pub mod Cells
 pub mod Model
 pub mod Opening
+pub mod Shown

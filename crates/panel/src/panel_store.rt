@@ -4,7 +4,7 @@ ghost use lib.ListN.{length};
 use crate::cells::Cells;
 
 // panels for 64 slots, and one staged, with how many numbers are owed to it
-#[derive(Clone, Copy)]
+#[derive(Drop)]
 pub struct PanelStore {
     pub(crate) cells: Cells,
     pub(crate) owed: usize,
