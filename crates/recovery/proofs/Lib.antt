@@ -8,3 +8,4 @@ pub mod Tells
 pub mod Verdicts
 pub mod Runs
 pub mod Recovers
+pub mod Worked

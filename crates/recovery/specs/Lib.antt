@@ -13,3 +13,6 @@ pub mod Calls
 pub mod Publisher
 pub mod Reach
 pub mod Guarantee
+pub mod Latest
+pub mod Example
+pub mod Points
