@@ -38,8 +38,11 @@ points sheet = record {
   behind = λ i v. refl;
   within = λ i v. refl;
   sign = refl;
-  old = refl; young = refl; ahead = refl;
-  heard = (refl, refl, refl) }
+  old = refl;
+  young = refl;
+  ahead = refl;
+  heard = (refl, refl, refl);
+}
 
 one-fits : (v : Latest) (b : Bool) (f : StatFields) → fitAll latest v (cond b (stat f ∷ []) []) ≡ true
 unfolding fitAll
@@ -130,5 +133,12 @@ module _ (sheet : Sheet) where
 
   pub worked : Worked S
   worked = record {
-    law = latest-law; honest = record { fitting = fitting; imaged = imaged }; loop = by-loop; swap = by-swap;
-    caught = caught; reached = reached; waits = waits; both = both }
+    law = latest-law;
+    honest = record { fitting = fitting; imaged = imaged };
+    loop = by-loop;
+    swap = by-swap;
+    caught = caught;
+    reached = reached;
+    waits = waits;
+    both = both;
+  }

@@ -30,8 +30,13 @@ statTemplate = record { id = 1; layout = Stat (record { security = byteAt 0; val
 
 abbrev pub headerTemplate : Template
 headerTemplate = record {
-  id = 2; layout = Header (record { security = byteAt 0; last = byteAt 1; bids = byteAt 2; offers = byteAt 3; stats = byteAt 4 }); root = 5; entry = 0;
-  «root_reach» = refl; «entry_reach» = refl }
+  id = 2;
+  layout = Header (record { security = byteAt 0; last = byteAt 1; bids = byteAt 2; offers = byteAt 3; stats = byteAt 4 });
+  root = 5;
+  entry = 0;
+  «root_reach» = refl;
+  «entry_reach» = refl;
+}
 
 -- a statistic of the instrument 5, and a snapshot's header of the instrument 5 at packet n with one statistic to come
 abbrev pub statBytes : ℕ → List ℕ
@@ -57,7 +62,8 @@ module _ (sheet : Sheet) where
   publisher = record {
     count = 3;
     sent = λ n. messages sheet (said n);
-    loops = λ l. cond (eqb l 6) (messages sheet (shot 1) ∷ messages sheet (shot 2) ∷ []) [] }
+    loops = λ l. cond (eqb l 6) (messages sheet (shot 1) ∷ messages sheet (shot 2) ∷ []) [];
+  }
 
   abbrev pub opening : Opening
   opening = record { channel = 7; version = 1; own = 11; watch = 5 ∷ []; sheet = sheet }
@@ -83,10 +89,12 @@ twoTemplates s = record {
   lawful = refl;
   near = before;
   hints = refl;
-  room = s .room }
+  room = s .room;
+}
   where
     fewer : (c : ℕ) → 40 ≤ c → 2 ≤ c
     fewer c le = omega arith
+
     before : (k : ℕ) → k < 2 → getD (replicate 256 0) (getD (1 ∷ 2 ∷ []) k 0 % 256) 0 ≤ k
     before zero lt = lit≤ tt
     before (suc zero) lt = lit≤ tt

@@ -55,9 +55,18 @@ lessLatest n torn = n
 
 abbrev pub latest : Kind Latest ℕ
 latest = record {
-  fresh = None; fits = λ v b. fitsLatest b; after = afterLatest;
-  holds = λ h. leb (h .stats) 1; begins = λ h. None; owes = λ h. h .stats;
-  concerns = concernsLatest; takes = λ v n p. takesLatest n p; put = λ v n p. putLatest v p; less = lessLatest; whole = λ n. eqb n 0 }
+  fresh = None;
+  fits = λ v b. fitsLatest b;
+  after = afterLatest;
+  holds = λ h. leb (h .stats) 1;
+  begins = λ h. None;
+  owes = λ h. h .stats;
+  concerns = concernsLatest;
+  takes = λ v n p. takesLatest n p;
+  put = λ v n p. putLatest v p;
+  less = lessLatest;
+  whole = λ n. eqb n 0;
+}
 
 -- one statistic, and its number is the latest
 pub record LatestImage (h : HeaderFields) (ps : List Part) (v : Latest) : Type 0 where

@@ -55,7 +55,8 @@ abbrev pub lostAt : ℕ → State Latest ℕ
 lostAt heard = record {
   plain = record { heard = heard; shelf = λ _. absent; joined = true; followed = Nothing; pending = Closed };
   books = λ _. book Stale None;
-  rest = record { room = 1; staged = None; owed = 0 } }
+  rest = record { room = 1; staged = None; owed = 0 };
+}
 
 -- after a snapshot of packet n that owes nothing: the mark and the highest heard
 abbrev pub snapped : Sheet → ℕ → State Latest ℕ
