@@ -15,7 +15,7 @@ use Rattle.recovery.specs.Shelf.{Found, absent, spoilt, intact, upon, isThere}
 use Rattle.recovery.specs.Reading.{changes}
 use Rattle.recovery.specs.Books.{Book, book, kindAt, fitAll, afterAll, lost, climb, aged, agedBy, settle, settleBy}
 use Rattle.recovery.specs.Publisher.{Publisher, valueAt, Honest}
-use Rattle.recovery.specs.Reach.{Extent, nowhere, upto, onward, led}
+use Rattle.recovery.specs.Extents.{Extent, nowhere, upto, onward, led}
 use Rattle.recovery.proofs.Basics.{by-test}
 use Rattle.recovery.proofs.Course.{never}
 

@@ -9,7 +9,7 @@ use lib.Dec.{eqb, leb, ltb}
 use Rattle.std.specs.declared.option.Option.{Option}
 use Rattle.std.specs.declared.option.Option.the-variants.{Some, None}
 use Rattle.std.proofs.shelf.Tests.{eqb-true, leb-true, leb-false, ltb-true, lt-ltb, eq-eqb, and-parts, and-from, or-left, or-right, or-cases, false≢true}
-use Rattle.recovery.specs.Reach.{Extent, nowhere, upto, Place, Parts, Reach, untouched, onward, led, near, moved, behind}
+use Rattle.recovery.specs.Extents.{Extent, nowhere, upto, Place, Parts, Reach, untouched, onward, led, near, moved, behind}
 use Rattle.recovery.specs.State.{Opening, watched}
 use Rattle.recovery.proofs.Basics.{by-test}
 

@@ -28,7 +28,8 @@ use Rattle.recovery.specs.Updates.{withPending, withBook}
 use Rattle.recovery.specs.Incremental.{idAt, renewed}
 use Rattle.recovery.specs.Groups.{idle, groupOf, wanted, adopted, decided}
 use Rattle.recovery.specs.Publisher.{Publisher, valueAt, Honest, piecesOf}
-use Rattle.recovery.specs.Reach.{Extent, nowhere, upto, Place, Parts, Reach, near, moved, led, behind, left, news, caught, judged, withParts}
+use Rattle.recovery.specs.Extents.{Extent, nowhere, upto, Place, Parts, Reach, near, moved, led, behind, withParts}
+use Rattle.recovery.specs.Reach.{left, news, caught, judged}
 use Rattle.recovery.proofs.Basics.{cond-two, by-test, ltb-not}
 use Rattle.recovery.proofs.Books.{extentOf, GoodFound, Both, settle-ok}
 

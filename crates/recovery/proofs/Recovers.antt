@@ -26,7 +26,8 @@ use Rattle.recovery.specs.Answers.{refuses, lawfulVersion, openingCheck, stand
 use Rattle.recovery.specs.Log.{Adoption}
 use Rattle.recovery.specs.Calls.{Call, incremental, join, leave, snapshot, question, taken, step, run, after, Shown, shown}
 use Rattle.recovery.specs.Publisher.{Publisher, valueAt, Honest, Brings, Fed, telling}
-use Rattle.recovery.specs.Reach.{Extent, nowhere, upto, Reach, untouched, takesSnapshot, tellAll, placed, reachStep, reachRun, Reached, atHeard, reachOf}
+use Rattle.recovery.specs.Extents.{Extent, nowhere, upto, Reach, untouched}
+use Rattle.recovery.specs.Reach.{takesSnapshot, tellAll, placed, reachStep, reachRun, Reached, atHeard, reachOf}
 use Rattle.recovery.specs.Guarantee.{Logged, IsPacket, Served, TrueBooks, SameReach, AdoptsBy, Adopts, TakenIn, ComesCurrent, Recovery}
 use Rattle.recovery.proofs.Books.{extentOf, GoodBy, Both}
 use Rattle.recovery.proofs.Course.{Settled, untouched-settled}

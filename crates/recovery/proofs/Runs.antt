@@ -28,7 +28,8 @@ use Rattle.recovery.specs.Groups.{eventSteps, messageSteps}
 use Rattle.recovery.specs.Steps.{noted, adoptions}
 use Rattle.recovery.specs.Calls.{Call, incremental, join, leave, snapshot, question, taken, step, run}
 use Rattle.recovery.specs.Publisher.{Publisher, valueAt, Honest, Imaged, Nth, telling, looping, Brings, Fed}
-use Rattle.recovery.specs.Reach.{Extent, nowhere, upto, Parts, Reach, untouched, near, moved, sound, takesPacket, takesSnapshot, due, tellAll, placed, reachStep, reachRun}
+use Rattle.recovery.specs.Extents.{Extent, nowhere, upto, Parts, Reach, untouched, near, moved, due}
+use Rattle.recovery.specs.Reach.{sound, takesPacket, takesSnapshot, tellAll, placed, reachStep, reachRun}
 use Rattle.recovery.proofs.Basics.{cond-two, by-test}
 use Rattle.recovery.proofs.Books.{GoodFound, Both}
 use Rattle.recovery.proofs.Kin.{placeOf, kept-agrees, Base, Rel, GoodGroup, renew-ok}

@@ -20,7 +20,8 @@ use Rattle.recovery.specs.Updates.{withPending, withStaged, onPending}
 use Rattle.recovery.specs.Groups.{groupOf, wanted, decided, begun, grown, eventStep, eventSteps}
 use Rattle.recovery.specs.Log.{Adoption, decidedLog, eventLog, eventLogs}
 use Rattle.recovery.specs.Publisher.{Publisher, valueAt, Honest, Imaged, piecesOf}
-use Rattle.recovery.specs.Reach.{Parts, Reach, left, news, judged, tell, tellAll, ofParts, withParts}
+use Rattle.recovery.specs.Extents.{Parts, Reach, ofParts, withParts}
+use Rattle.recovery.specs.Reach.{left, news, judged, tell, tellAll}
 use Rattle.recovery.proofs.Basics.{cond-two, by-test}
 use Rattle.recovery.proofs.Kin.{Base, Rel, GoodOpen, GoodGroup, base-group, decide-ok, wanted-news}
 use Rattle.recovery.proofs.Way.{judgedLog, tellLog, tellLogs}

@@ -19,7 +19,8 @@ use Rattle.recovery.specs.Shelf.{isThere}
 use Rattle.recovery.specs.State.{Opening, Plain}
 use Rattle.recovery.specs.Answers.{refuses, framed, lawfulVersion, incrementalAnswer, snapshotCheck, again, isNext}
 use Rattle.recovery.specs.Updates.{whenTaken, whenOk}
-use Rattle.recovery.specs.Reach.{Reach, sound, takesPacket, takesSnapshot, seen, due}
+use Rattle.recovery.specs.Extents.{Reach, seen, due}
+use Rattle.recovery.specs.Reach.{sound, takesPacket, takesSnapshot}
 use Rattle.recovery.proofs.Basics.{by-test, ltb-not}
 use Rattle.recovery.proofs.Kin.{placeOf}
 

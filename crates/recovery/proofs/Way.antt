@@ -16,7 +16,8 @@ use Rattle.recovery.specs.State.{Opening, watched}
 use Rattle.recovery.specs.Log.{Adoption}
 use Rattle.recovery.specs.Calls.{Call, incremental, join, leave, snapshot, question}
 use Rattle.recovery.specs.Publisher.{telling}
-use Rattle.recovery.specs.Reach.{Extent, nowhere, upto, Parts, Reach, left, news, caught, judged, tell, tellAll, placed, due, takesPacket, takesSnapshot, sound, behind, ofParts, withParts, tuned, moved, reachStep, reachRun}
+use Rattle.recovery.specs.Extents.{Extent, nowhere, upto, Parts, Reach, due, behind, ofParts, withParts, tuned, moved}
+use Rattle.recovery.specs.Reach.{left, news, caught, judged, tell, tellAll, placed, takesPacket, takesSnapshot, sound, reachStep, reachRun}
 use Rattle.recovery.specs.Guarantee.{Logged}
 use Rattle.recovery.proofs.Basics.{cond-two, by-test}
 use Rattle.recovery.proofs.Course.{Settled, Goes, Moves, goes-on, still, caught-moves, caught-at, packet-moves, packet-there}

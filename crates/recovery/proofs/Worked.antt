@@ -21,10 +21,12 @@ use Rattle.recovery.specs.Books.{fitAll, afterAll, climb}
 use Rattle.recovery.specs.Groups.{eventSteps, messageSteps}
 use Rattle.recovery.specs.Publisher.{Honest, Imaged, valueAt, telling, looping, piecesOf}
 use Rattle.recovery.specs.Calls.{incremental}
-use Rattle.recovery.specs.Reach.{upto, reachOf, onward, tellAll}
+use Rattle.recovery.specs.Extents.{upto, onward}
+use Rattle.recovery.specs.Reach.{reachOf, tellAll}
 use Rattle.recovery.specs.Guarantee.{Served}
 use Rattle.recovery.specs.Latest.{Latest, latest, LatestImage}
-use Rattle.recovery.specs.Example.{byteAt, statBytes, headerBytes, publisher, opening, oneSlot, byLoop, swapped, twoTemplates, said, shot}
+use Rattle.recovery.specs.Example.{statBytes, headerBytes, publisher, opening, oneSlot, byLoop, swapped, said, shot}
+use Rattle.recovery.specs.Pattern.{byteAt, twoTemplates}
 use Rattle.recovery.specs.Points.{Worked, Points, ownHead, showing, seenAs}
 
 latest-law : ImageLaw latest LatestImage

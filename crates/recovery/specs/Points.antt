@@ -23,7 +23,8 @@ use Rattle.recovery.specs.Answers.{incrementalRules, standing}
 use Rattle.recovery.specs.Groups.{eventStep}
 use Rattle.recovery.specs.Calls.{Call, incremental, after, shown, Shown}
 use Rattle.recovery.specs.Publisher.{Honest}
-use Rattle.recovery.specs.Reach.{upto, Reached, reachOf}
+use Rattle.recovery.specs.Extents.{upto}
+use Rattle.recovery.specs.Reach.{Reached, reachOf}
 use Rattle.recovery.specs.Guarantee.{Served}
 use Rattle.recovery.specs.Latest.{Latest, latest, LatestImage}
 use Rattle.recovery.specs.Example.{publisher, opening, oneSlot, byLoop, swapped, said}

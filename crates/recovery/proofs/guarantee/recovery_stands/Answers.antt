@@ -3,4 +3,4 @@ use Rattle.recovery.proofs.Recovers.{recovers}
 use Rattle.recovery.proofs.guarantee.recovery_stands.Needs as need
 
 pub returns : need.returns
-returns g c = record { answer = refl; guarantee = λ o. recovers (g .S·Store .kind o) (g .S·Store .Image o) (g .S·Store .image o) }
+returns g c = record { parts = refl; guarantee = λ o. recovers (g .S·Store .kind o) (g .S·Store .Image o) (g .S·Store .image o) }
