@@ -9,3 +9,4 @@ pub mod Verdicts
 pub mod Runs
 pub mod Recovers
 pub mod Worked
+pub mod Presents

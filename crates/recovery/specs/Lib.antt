@@ -14,6 +14,7 @@ pub mod Publisher
 pub mod Extents
 pub mod Reach
 pub mod Guarantee
+pub mod Present
 pub mod Latest
 pub mod Pattern
 pub mod Example

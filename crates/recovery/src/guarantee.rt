@@ -1,5 +1,8 @@
 ghost use mathlib.Core.Path.{_≡_};
+ghost use Prim.Native.Nat.{ℕ};
+ghost use Rattle.recovery.specs.State.{Opening, State};
 ghost use Rattle.recovery.specs.Guarantee.{Recovery};
+ghost use Rattle.recovery.specs.Present.{Guaranteed};
 ghost use Rattle.recovery.specs.Pattern.{twoTemplates};
 ghost use Rattle.recovery.specs.Points.{Worked, Points};
 use layout::sheet::Sheet;
@@ -15,6 +18,7 @@ const RUNS: u8 = 2;
 pub fn recovery_stands<S: Store>() -> u8
     ensures parts { λ r. ⌜ r ≡ 3 ⌝ }
     ensures guarantee { λ _. ⌜ ((o : Setup) → Recovery (kind o) (Image o)) ⌝ }
+    ensures present { λ _. ⌜ ((o : Setup) (opening : Opening) (s : State Value Owed) (i : ℕ) → Guaranteed (kind o) opening s i (Image o)) ⌝ }
 {
     PARTS
 }
