@@ -15,7 +15,7 @@ use Rattle.recovery.specs.Shelf.{Found, absent, spoilt, intact, upon, isThere}
 use Rattle.recovery.specs.Reading.{changes}
 use Rattle.recovery.specs.Books.{Book, book, kindAt, fitAll, afterAll, lost, climb, aged, agedBy, settle, settleBy}
 use Rattle.recovery.specs.Publisher.{Publisher, valueAt, Honest}
-use Rattle.recovery.specs.Reach.{Extent, nowhere, upto, onward, led}
+use Rattle.recovery.specs.Extents.{Extent, nowhere, upto, onward, led}
 use Rattle.recovery.proofs.Basics.{by-test}
 use Rattle.recovery.proofs.Course.{never}
 
@@ -49,36 +49,36 @@ module _ {V O : Type 0} (K : Kind V O) (P : Publisher) (Image : HeaderFields →
   module _ (shelf : ℕ → Found) (there : ℕ → Bool) (good : (k : ℕ) → GoodFound k (shelf k)) (agree : (k : ℕ) → there k ≡ isThere (shelf k)) (i : ℕ) where
     -- one packet, at k after n
     one : (f n k : ℕ) → k ≡ suc n → (x : Found) → there k ≡ isThere x → GoodFound k x
-      → Both i (climb K f shelf i k (valueAt K P i k)) (upto (onward f there k))
-      → Both i (upon x (book (AsOf n) (valueAt K P i n)) (lost K) (λ ms. cond (fitAll K (valueAt K P i n) (changes i ms)) (climb K f shelf i k (afterAll K (valueAt K P i n) (changes i ms))) (lost K)))
-          (upto (cond (there k) (onward f there k) n))
+        → Both i (climb K f shelf i k (valueAt K P i k)) (upto (onward f there k))
+        → Both i (upon x (book (AsOf n) (valueAt K P i n)) (lost K) (λ ms. cond (fitAll K (valueAt K P i n) (changes i ms)) (climb K f shelf i k (afterAll K (valueAt K P i n) (changes i ms))) (lost K)))
+        (upto (cond (there k) (onward f there k) n))
     one f n k e absent t g ih = rw t (refl, refl)
     one f n k e spoilt t g ih = absurd g
     one f n k e (intact ms) t g ih =
-      let fit : fitAll K (valueAt K P i n) (changes i (P .sent k)) ≡ true = subst (λ j. fitAll K (valueAt K P i n) (changes i (P .sent j)) ≡ true) (sym e) (honest .fitting i n (omega (arith, g .0))) in
-      rw (t, g .1, fit, value-next i n k e) ih
+        let fit : fitAll K (valueAt K P i n) (changes i (P .sent k)) ≡ true = subst (λ j. fitAll K (valueAt K P i n) (changes i (P .sent j)) ≡ true) (sym e) (honest .fitting i n (omega (arith, g .0))) in
+        rw (t, g .1, fit, value-next i n k e) ih
 
     climb-ok : (f n : ℕ) → Both i (climb K f shelf i n (valueAt K P i n)) (upto (onward f there n))
     unfolding climb onward
     climb-ok zero n = (refl, refl)
     climb-ok (suc f) n =
-      let e : n + 1 ≡ suc n = omega arith in
-      subst (λ k. Both i (upon (shelf (n + 1)) (book (AsOf n) (valueAt K P i n)) (lost K) (λ ms. cond (fitAll K (valueAt K P i n) (changes i ms)) (climb K f shelf i (n + 1) (afterAll K (valueAt K P i n) (changes i ms))) (lost K))) (upto (cond (there k) (onward f there k) n)))
+        let e : n + 1 ≡ suc n = omega arith in
+        subst (λ k. Both i (upon (shelf (n + 1)) (book (AsOf n) (valueAt K P i n)) (lost K) (λ ms. cond (fitAll K (valueAt K P i n) (changes i ms)) (climb K f shelf i (n + 1) (afterAll K (valueAt K P i n) (changes i ms))) (lost K))) (upto (cond (there k) (onward f there k) n)))
         e (one f n (n + 1) e (shelf (n + 1)) (agree (n + 1)) (good (n + 1)) (climb-ok f (n + 1)))
 
     aged-ok : (h : ℕ) (v : V) (x : Mark) (m : ℕ) → Both i (book x v) (upto m) → Both i (agedBy K h v x) (cond (leb h (m + 32)) (upto m) nowhere)
     aged-ok h v Stale m b = never (b .1)
     aged-ok h v (AsOf n) m b =
-      let e : n ≡ m = cc (b .1) in
-      rw (← e) (by-test (leb (n + 33) h)
+        let e : n ≡ m = cc (b .1) in
+        rw (← e) (by-test (leb (n + 33) h)
         (λ t. let l = leb-true _ _ t in rw (t, lt-leb h (n + 32) (omega (arith, l))) (refl, refl))
         (λ t. let l = leb-false _ _ t in rw (t, le-leb h (n + 32) (omega (arith, l))) (b .0, refl)))
 
     settle-by : (h : ℕ) (v : V) (x : Mark) → GoodBy i v x → Both i (settleBy K h shelf i v x) (led h there (extentOf x))
     settle-by h v Stale g = (g, refl)
     settle-by h v (AsOf n) g =
-      let c = climb-ok (h - n) n in
-      rw g (aged-ok h (climb K (h - n) shelf i n (valueAt K P i n) .value) (climb K (h - n) shelf i n (valueAt K P i n) .mark) (onward (h - n) there n) c)
+        let c = climb-ok (h - n) n in
+        rw g (aged-ok h (climb K (h - n) shelf i n (valueAt K P i n) .value) (climb K (h - n) shelf i n (valueAt K P i n) .mark) (onward (h - n) there n) c)
 
     pub settle-ok : (h room q : ℕ) (x : Book V) (e : Extent) → ltb q room ≡ true → Both i x e → Both i (settle (kindAt K room q) h shelf i x) (led h there e)
     settle-ok h room q x e t b = rw (kind-there K room q t, ← (b .1)) (settle-by h (x .value) (x .mark) (b .0))

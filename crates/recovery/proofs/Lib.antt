@@ -8,3 +8,5 @@ pub mod Tells
 pub mod Verdicts
 pub mod Runs
 pub mod Recovers
+pub mod Worked
+pub mod Presents

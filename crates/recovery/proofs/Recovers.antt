@@ -26,7 +26,8 @@ use Rattle.recovery.specs.Answers.{refuses, lawfulVersion, openingCheck, stand
 use Rattle.recovery.specs.Log.{Adoption}
 use Rattle.recovery.specs.Calls.{Call, incremental, join, leave, snapshot, question, taken, step, run, after, Shown, shown}
 use Rattle.recovery.specs.Publisher.{Publisher, valueAt, Honest, Brings, Fed, telling}
-use Rattle.recovery.specs.Reach.{Extent, nowhere, upto, Reach, untouched, takesSnapshot, tellAll, placed, reachStep, reachRun, Reached, atHeard, reachOf}
+use Rattle.recovery.specs.Extents.{Extent, nowhere, upto, Reach, untouched}
+use Rattle.recovery.specs.Reach.{takesSnapshot, tellAll, placed, reachStep, reachRun, Reached, atHeard, reachOf}
 use Rattle.recovery.specs.Guarantee.{Logged, IsPacket, Served, TrueBooks, SameReach, AdoptsBy, Adopts, TakenIn, ComesCurrent, Recovery}
 use Rattle.recovery.proofs.Books.{extentOf, GoodBy, Both}
 use Rattle.recovery.proofs.Course.{Settled, untouched-settled}
@@ -67,7 +68,7 @@ read-look h (AsOf n) v = go (eqb n h)
 module _ {V O : Type 0} (K : Kind V O) (Image : HeaderFields → List Part → V → Type 0) (law : ImageLaw K Image) (P : Publisher) (honest : Honest K P Image) where
   opens-kin : (o : Opening) (store : Model V O) → isOk (openingCheck (o .watch) (o .version) (length (store .slots))) ≡ true → Kin K P Image honest o (opened K o store) (untouched o)
   opens-kin o store e = opened-ok K P Image honest o law store
-    (ltb-false _ _ (roomy (not (ltb 0 (length (o .watch)) && (leb (length (o .watch)) 64 && distinct (o .watch)))) (not (lawfulVersion (o .version))) (ltb (length (store .slots)) (length (o .watch))) e))
+      (ltb-false _ _ (roomy (not (ltb 0 (length (o .watch)) && (leb (length (o .watch)) 64 && distinct (o .watch)))) (not (lawfulVersion (o .version))) (ltb (length (store .slots)) (length (o .watch))) e))
 
   kin : (o : Opening) (store : Model V O) (cs : List Call) → Served K P o store cs → Kin K P Image honest o (after K o store cs) (reachRun K o (untouched o) cs)
   kin o store cs served = run-ok K P Image honest o law cs (opened K o store) (untouched o) (opens-kin o store (served .0)) (served .1)
@@ -78,8 +79,8 @@ module _ {V O : Type 0} (K : Kind V O) (Image : HeaderFields → List Part → V
 
   pub true-books : TrueBooks K P
   true-books o store cs served i w never =
-    let x = after K o store cs .books (slotOf o i) in
-    true-book (after K o store cs .plain .heard) i (x .mark) (x .value) (kin o store cs served .rel .base .books i w .0) never
+      let x = after K o store cs .books (slotOf o i) in
+      true-book (after K o store cs .plain .heard) i (x .mark) (x .value) (kin o store cs served .rel .base .books i w .0) never
 
   -- what is shown, written from reach
   abbrev writeBy : ℕ → Extent → Bool → Shown V
@@ -102,12 +103,13 @@ module _ {V O : Type 0} (K : Kind V O) (Image : HeaderFields → List Part → V
 
     written : shown o (after K o store cs) i ≡ write i (reachOf K o cs i)
     written = let x = after K o store cs .books (slotOf o i) in
-      write-look (after K o store cs .plain .heard) i (x .mark) (x .value) (kin o store cs served .rel .base .books i w .0) ∙ ap (write i) (sym reach-is)
+        write-look (after K o store cs .plain .heard) i (x .mark) (x .value) (kin o store cs served .rel .base .books i w .0) ∙ ap (write i) (sym reach-is)
 
   pub same-reach : SameReach K P
   same-reach o o′ store store′ cs cs′ served served′ i w w′ = (
     (λ e. sym (shows o store cs served i w) ∙ ap read e ∙ shows o′ store′ cs′ served′ i w′),
-    (λ e. written o store cs served i w ∙ ap (write i) e ∙ sym (written o′ store′ cs′ served′ i w′)))
+    (λ e. written o store cs served i w ∙ ap (write i) e ∙ sym (written o′ store′ cs′ served′ i w′)),
+  )
 
   module _ (o : Opening) where
     run-append : (s : State V O) (xs ys : List Call) → run K o s (xs ++ ys) ≡ run K o (run K o s xs) ys
@@ -128,18 +130,19 @@ module _ {V O : Type 0} (K : Kind V O) (Image : HeaderFields → List Part → V
     takes-in : (cs : List Call) (s : State V O) (r : Reach) (k : ℕ) → Kin K P Image honest o s r → Fed K P o s cs → TakenIn K P o s cs k → TakesIn K o r cs k
     takes-in [] s r k rel fed t = t
     takes-in (c ∷ cs) s r k rel fed t = elim t [
-        inl x ↦ inl (takes-now s r c k rel (x .0) (x .1))
-      | inr later ↦ inr (takes-in cs (step K o s c) (reachStep K o r c) k (step-ok K P Image honest o law s r rel c (fed .0)) (fed .1) later) ]
+      | inl x ↦ inl (takes-now s r c k rel (x .0) (x .1))
+      | inr later ↦ inr (takes-in cs (step K o s c) (reachStep K o r c) k (step-ok K P Image honest o law s r rel c (fed .0)) (fed .1) later)
+    ]
 
     -- an adoption is of a snapshot packet that is taken
     adopted-mid : (c : Call) (s : State V O) (r : Reach) (i n : ℕ) → Kin K P Image honest o s r → Settled r → taken o (s .plain) c ≡ true → (taken o (s .plain) c ≡ true → Brings P o c)
-      → AdoptsBy K P o s c i n → Midway r (reachStep K o r c) i n
+        → AdoptsBy K P o s c i n → Midway r (reachStep K o r c) i n
     adopted-mid (incremental room bytes) s r i n rel st t fed l = absurd l
     adopted-mid join s r i n rel st t fed l = absurd l
     adopted-mid (leave j) s r i n rel st t fed l = absurd l
     adopted-mid (snapshot j room bytes) s r i n rel st t fed l =
-      let u : takesSnapshot o r j room bytes ≡ true = sym (snapshot-taken K P Image honest o law s r rel j room bytes) ∙ t in
-      rw u (snapshot-mid K o bytes r st i n (subst (λ (x : List Adoption). Logged x i n) (adoptions-same K P Image honest o law s r rel j room bytes (fed t)) l))
+        let u : takesSnapshot o r j room bytes ≡ true = sym (snapshot-taken K P Image honest o law s r rel j room bytes) ∙ t in
+        rw u (snapshot-mid K o bytes r st i n (subst (λ (x : List Adoption). Logged x i n) (adoptions-same K P Image honest o law s r rel j room bytes (fed t)) l))
     adopted-mid (question q) s r i n rel st t fed l = absurd l
 
     look-current : (h : ℕ) (x : Mark) → extentOf x ≡ upto h → standing h x .sign ≡ signs.Current
@@ -147,29 +150,33 @@ module _ {V O : Type 0} (K : Kind V O) (Image : HeaderFields → List Part → V
     look-current h (AsOf n) e = let u : n ≡ h = cc in rw (eq-eqb n h u)
 
     since-then : (s : State V O) (r : Reach) (c : Call) (since : List Call) → Kin K P Image honest o s r → Settled r → Fed K P o s (c ∷ since) → (i n : ℕ) → watched o i ≡ true → Adopts K P o s c i n
-      → ((k : ℕ) → n < k → k ≤ run K o s (c ∷ since) .plain .heard → (isThere (s .plain .shelf k) ≡ true) ⊎ TakenIn K P o (step K o s c) since k)
-      → shown o (run K o s (c ∷ since)) i .sign ≡ signs.Current
+        → ((k : ℕ) → n < k → k ≤ run K o s (c ∷ since) .plain .heard → (isThere (s .plain .shelf k) ≡ true) ⊎ TakenIn K P o (step K o s c) since k)
+        → shown o (run K o s (c ∷ since)) i .sign ≡ signs.Current
     since-then s r c since rel st fed i n w ad all =
-      look-current _ _ (at-end .rel .base .books i w .1 ∙ comes K o r (reachStep K o r c) since i n (step-moves K o c r st .settled) mid all′ ∙ ap upto (at-end .rel .base .heard))
+        look-current _ _ (at-end .rel .base .books i w .1 ∙ comes K o r (reachStep K o r c) since i n (step-moves K o c r st .settled) mid all′ ∙ ap upto (at-end .rel .base .heard))
       where
         next : Kin K P Image honest o (step K o s c) (reachStep K o r c)
         next = step-ok K P Image honest o law s r rel c (fed .0)
+
         at-end : Kin K P Image honest o (run K o s (c ∷ since)) (reachRun K o (reachStep K o r c) since)
         at-end = run-ok K P Image honest o law since (step K o s c) (reachStep K o r c) next (fed .1)
+
         mid : Midway r (reachStep K o r c) i n
         mid = adopted-mid c s r i n rel st (ad .0) (fed .0) (ad .1)
+
         all′ : (k : ℕ) → n < k → k ≤ reachRun K o (reachStep K o r c) since .heard → (r .there k ≡ true) ⊎ TakesIn K o (reachStep K o r c) since k
         all′ k lt le = elim (all k lt (subst (λ h. k ≤ h) (at-end .rel .base .heard) le)) [
-            inl u ↦ inl (rel .rel .base .there k ∙ u)
-          | inr t ↦ inr (takes-in since (step K o s c) (reachStep K o r c) k next (fed .1) t) ]
+          | inl u ↦ inl (rel .rel .base .there k ∙ u)
+          | inr t ↦ inr (takes-in since (step K o s c) (reachStep K o r c) k next (fed .1) t)
+        ]
 
   pub comes-current : ComesCurrent K P
   comes-current o store cs c since served i n w ad all =
-    let f = fed-append o (opened K o store) cs (c ∷ since) (served .1) in
-    let e = run-append o (opened K o store) cs (c ∷ since) in
-    subst (λ (t : State V O). shown o t i .sign ≡ signs.Current) (sym e)
+      let f = fed-append o (opened K o store) cs (c ∷ since) (served .1) in
+      let e = run-append o (opened K o store) cs (c ∷ since) in
+      subst (λ (t : State V O). shown o t i .sign ≡ signs.Current) (sym e)
       (since-then o (after K o store cs) (reachRun K o (untouched o) cs) c since (kin o store cs (served .0, f .0)) (run-settled K o cs (untouched o) (untouched-settled o)) (f .1) i n w ad
-        (λ k lt le. all k lt (subst (λ (t : State V O). k ≤ t .plain .heard) (sym e) le)))
+      (λ k lt le. all k lt (subst (λ (t : State V O). k ≤ t .plain .heard) (sym e) le)))
 
 pub recovers : {V O : Type 0} (K : Kind V O) (Image : HeaderFields → List Part → V → Type 0) → ImageLaw K Image → Recovery K Image
 recovers K Image law P honest = (true-books K Image law P honest, same-reach K Image law P honest, comes-current K Image law P honest)

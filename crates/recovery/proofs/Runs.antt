@@ -28,7 +28,8 @@ use Rattle.recovery.specs.Groups.{eventSteps, messageSteps}
 use Rattle.recovery.specs.Steps.{noted, adoptions}
 use Rattle.recovery.specs.Calls.{Call, incremental, join, leave, snapshot, question, taken, step, run}
 use Rattle.recovery.specs.Publisher.{Publisher, valueAt, Honest, Imaged, Nth, telling, looping, Brings, Fed}
-use Rattle.recovery.specs.Reach.{Extent, nowhere, upto, Parts, Reach, untouched, near, moved, sound, takesPacket, takesSnapshot, due, tellAll, placed, reachStep, reachRun}
+use Rattle.recovery.specs.Extents.{Extent, nowhere, upto, Parts, Reach, untouched, near, moved, due}
+use Rattle.recovery.specs.Reach.{sound, takesPacket, takesSnapshot, tellAll, placed, reachStep, reachRun}
 use Rattle.recovery.proofs.Basics.{cond-two, by-test}
 use Rattle.recovery.proofs.Books.{GoodFound, Both}
 use Rattle.recovery.proofs.Kin.{placeOf, kept-agrees, Base, Rel, GoodGroup, renew-ok}
@@ -59,7 +60,7 @@ module _ {V O : Type 0} (K : Kind V O) (P : Publisher) (Image : HeaderFields →
   -- a packet that is taken has kept the rules, is recent, and is the publisher's
   module _ (bytes : List ℕ) (ok : isOk (packetCheck (o .sheet) bytes) ≡ true) (b : Brings P o (incremental 0 bytes)) where
     laid-good : (h : ℕ) (shelf : ℕ → Found) → ((k : ℕ) → GoodFound K P Image honest k (shelf k))
-      → (k : ℕ) → GoodFound K P Image honest k (laid h (packetHead bytes .number) (reading (o .sheet) bytes) shelf k)
+        → (k : ℕ) → GoodFound K P Image honest k (laid h (packetHead bytes .number) (reading (o .sheet) bytes) shelf k)
     laid-good h shelf good k = go (eqb k (packetHead bytes .number)) refl (leb (k + 32) h)
       where
         go : (c : Bool) → eqb k (packetHead bytes .number) ≡ c → (d : Bool) → GoodFound K P Image honest k (cond c (reading (o .sheet) bytes) (cond d absent (shelf k)))
@@ -68,16 +69,16 @@ module _ {V O : Type 0} (K : Kind V O) (P : Publisher) (Image : HeaderFields →
         go false e false = good k
 
     laid-agrees : (h : ℕ) (shelf : ℕ → Found) (there : ℕ → Bool) → ((k : ℕ) → there k ≡ isThere (shelf k)) → h < packetHead bytes .number + 32
-      → (k : ℕ) → near h (λ j. eqb j (packetHead bytes .number) || there j) k ≡ isThere (laid h (packetHead bytes .number) (reading (o .sheet) bytes) shelf k)
+        → (k : ℕ) → near h (λ j. eqb j (packetHead bytes .number) || there j) k ≡ isThere (laid h (packetHead bytes .number) (reading (o .sheet) bytes) shelf k)
     laid-agrees h shelf there agree lt k = by-test (eqb k (packetHead bytes .number))
-      (λ e. let same : k ≡ packetHead bytes .number = eqb-true _ _ e in rw (e, ok, lt-ltb h (k + 32) (omega (arith, same, lt))))
-      (λ e. rw e (kept-agrees h shelf there agree k))
+        (λ e. let same : k ≡ packetHead bytes .number = eqb-true _ _ e in rw (e, ok, lt-ltb h (k + 32) (omega (arith, same, lt))))
+        (λ e. rw e (kept-agrees h shelf there agree k))
 
     received-ok : (l : Followed) (fs : List Event) (s : State V O) (r : Reach) → r .heard < packetHead bytes .number + 32 → Rel K P Image honest o l fs s r
-      → Rel K P Image honest o l fs (received K o bytes s) (moved (max (r .heard) (packetHead bytes .number)) (λ k. eqb k (packetHead bytes .number) || r .there k) (r .extent) r)
+        → Rel K P Image honest o l fs (received K o bytes s) (moved (max (r .heard) (packetHead bytes .number)) (λ k. eqb k (packetHead bytes .number) || r .there k) (r .extent) r)
     received-ok l fs s r lt rel =
-      let b = rel .base in let h = b .heard in
-      renew-ok K P Image honest o l fs s (max (s .plain .heard) (packetHead bytes .number)) (max (r .heard) (packetHead bytes .number))
+        let b = rel .base in let h = b .heard in
+        renew-ok K P Image honest o l fs s (max (s .plain .heard) (packetHead bytes .number)) (max (r .heard) (packetHead bytes .number))
         (laid (max (s .plain .heard) (packetHead bytes .number)) (packetHead bytes .number) (reading (o .sheet) bytes) (s .plain .shelf))
         (λ k. eqb k (packetHead bytes .number) || r .there k) (r .extent) r
         (ap (λ x. max x (packetHead bytes .number)) h)
@@ -115,30 +116,31 @@ module _ {V O : Type 0} (K : Kind V O) (P : Publisher) (Image : HeaderFields →
       start-imaged = rw (← (point .2)) (imaged-drop (point .0) (P .loops (packetHead bytes .version)) (honest .imaged (packetHead bytes .version)))
 
       carried : (f : Followed) (x : Pending) (y : Option Parts) → GoodGroup K P Image honest o (future f) x y (s .rest) → (c : Bool) → isNext f (packetHead bytes .version) (packetHead bytes .number) ≡ c
-        → GoodGroup K P Image honest o (row ++ future here) (cond c x Closed) (cond c y None) (s .rest)
+          → GoodGroup K P Image honest o (row ++ future here) (cond c x Closed) (cond c y None) (s .rest)
       carried f x y g false t = tt
       carried Nothing x y g true t = absurd (false≢true t)
       carried (Upto l′ k′) x y g true t =
-        let a = and-parts (eqb (packetHead bytes .version) l′) (eqb (packetHead bytes .number) (k′ + 1)) t in
-        let el : packetHead bytes .version ≡ l′ = eqb-true _ l′ (a .0) in
-        let en : packetHead bytes .number ≡ k′ + 1 = eqb-true _ (k′ + 1) (a .1) in
-        let ek : point .0 ≡ k′ = omega (arith, point .1, en) in
-        let e : looping (drop k′ (P .loops l′)) ≡ row ++ future here = ap (λ j. looping (drop k′ (P .loops j))) (sym el) ∙ ap (λ j. looping (drop j (P .loops (packetHead bytes .version)))) (sym ek) ∙ point .2 in
-        subst (λ fs. GoodGroup K P Image honest o fs x y (s .rest)) e g
+          let a = and-parts (eqb (packetHead bytes .version) l′) (eqb (packetHead bytes .number) (k′ + 1)) t in
+          let el : packetHead bytes .version ≡ l′ = eqb-true _ l′ (a .0) in
+          let en : packetHead bytes .number ≡ k′ + 1 = eqb-true _ (k′ + 1) (a .1) in
+          let ek : point .0 ≡ k′ = omega (arith, point .1, en) in
+          let e : looping (drop k′ (P .loops l′)) ≡ row ++ future here = ap (λ j. looping (drop k′ (P .loops j))) (sym el) ∙ ap (λ j. looping (drop j (P .loops (packetHead bytes .version)))) (sym ek) ∙ point .2 in
+          subst (λ fs. GoodGroup K P Image honest o fs x y (s .rest)) e g
 
       start : Rel K P Image honest o here (row ++ future here) (noted (packetHead bytes) s) (placed K o bytes r)
       start = let c = rel .base in record {
         base = record { heard = c .heard; there = c .there; joined = c .joined; follow = refl; place = refl; room = c .room; shelf = c .shelf; books = c .books };
         group = rw (c .follow, c .place, due-next l (packetHead bytes .version) (packetHead bytes .number))
-          (carried l (s .plain .pending) (r .parts) (rel .group) (isNext l (packetHead bytes .version) (packetHead bytes .number)) refl) }
+            (carried l (s .plain .pending) (r .parts) (rel .group) (isNext l (packetHead bytes .version) (packetHead bytes .number)) refl);
+      }
 
       snapshot-ok : Rel K P Image honest o here (future here) (messageSteps K o (messages (o .sheet) bytes) (noted (packetHead bytes) s)) (tellAll K o row (placed K o bytes r))
       snapshot-ok = rw (steps-row K o (messages (o .sheet) bytes) (noted (packetHead bytes) s))
-        (events-rel K P Image honest o law here row (future here) (noted (packetHead bytes) s) (placed K o bytes r) start start-imaged)
+          (events-rel K P Image honest o law here row (future here) (noted (packetHead bytes) s) (placed K o bytes r) start start-imaged)
 
       snapshot-log : adoptions K o bytes s ≡ tellLogs K o row (placed K o bytes r)
       snapshot-log = logs-row K o (messages (o .sheet) bytes) (noted (packetHead bytes) s)
-        ∙ events-log K P Image honest o law here row (future here) (noted (packetHead bytes) s) (placed K o bytes r) start start-imaged
+          ∙ events-log K P Image honest o law here row (future here) (noted (packetHead bytes) s) (placed K o bytes r) start start-imaged
 
     module _ (s : State V O) (r : Reach) (kin : Kin s r) where
       place-is : r .place ≡ placeOf (s .plain .followed)
@@ -153,44 +155,52 @@ module _ {V O : Type 0} (K : Kind V O) (P : Publisher) (Image : HeaderFields →
 
       packet-recent : (room : ℕ) (bytes : List ℕ) → takesPacket o r room bytes ≡ true → (isOk (packetCheck (o .sheet) bytes) ≡ true) × (r .heard < packetHead bytes .number + 32)
       packet-recent room bytes t =
-        let a = and-parts (sound o room bytes) _ t in
-        let b = and-parts (leb 44800 room) _ (a .0) .1 in
-        let c = and-parts (eqb (packetHead bytes .version) (o .version)) _ (a .1) .1 in
-        let d = and-parts (ltb 0 (packetHead bytes .number)) _ c .1 in
-        (and-parts (isOk (packetCheck (o .sheet) bytes)) _ b .0, ltb-true _ _ (and-parts (ltb (r .heard) (packetHead bytes .number + 32)) _ d .0))
+          let a = and-parts (sound o room bytes) _ t in
+          let b = and-parts (leb 44800 room) _ (a .0) .1 in
+          let c = and-parts (eqb (packetHead bytes .version) (o .version)) _ (a .1) .1 in
+          let d = and-parts (ltb 0 (packetHead bytes .number)) _ c .1 in
+          (and-parts (isOk (packetCheck (o .sheet) bytes)) _ b .0, ltb-true _ _ (and-parts (ltb (r .heard) (packetHead bytes .number + 32)) _ d .0))
 
       incremental-ok : (room : ℕ) (bytes : List ℕ) → (taken o (s .plain) (incremental room bytes) ≡ true → Brings P o (incremental room bytes))
-        → Kin (step K o s (incremental room bytes)) (reachStep K o r (incremental room bytes))
+          → Kin (step K o s (incremental room bytes)) (reachStep K o r (incremental room bytes))
       incremental-ok room bytes fed =
-        subst (λ (x : State V O). Kin x (reachStep K o r (incremental room bytes)))
+          subst (λ (x : State V O). Kin x (reachStep K o r (incremental room bytes)))
           (sym (packet-verdict (received K o bytes s) s o (s .plain) r room bytes (kin .rel .base .heard) (kin .rel .base .there (packetHead bytes .number))))
           (cond-two Kin (takesPacket o r room bytes) (takesPacket o r room bytes) refl _ _ _ _
-            (λ t. let q = packet-recent room bytes t in
-              record { loop = kin .loop; rel = received-ok bytes (q .0) (fed (packet-taken room bytes ∙ t)) (kin .loop) (future (kin .loop)) s r (q .1) (kin .rel) })
-            (λ _. kin))
+          (λ t. let q = packet-recent room bytes t in
+          record { loop = kin .loop; rel = received-ok bytes (q .0) (fed (packet-taken room bytes ∙ t)) (kin .loop) (future (kin .loop)) s r (q .1) (kin .rel) })
+          (λ _. kin))
 
       snapshot-keeps : (j room : ℕ) (bytes : List ℕ) → (taken o (s .plain) (snapshot j room bytes) ≡ true → Brings P o (snapshot j room bytes))
-        → Kin (step K o s (snapshot j room bytes)) (reachStep K o r (snapshot j room bytes))
+          → Kin (step K o s (snapshot j room bytes)) (reachStep K o r (snapshot j room bytes))
       snapshot-keeps j room bytes fed =
-        subst (λ (x : State V O). Kin x (reachStep K o r (snapshot j room bytes)))
+          subst (λ (x : State V O). Kin x (reachStep K o r (snapshot j room bytes)))
           (sym (snapshot-verdict (messageSteps K o (messages (o .sheet) bytes) (noted (packetHead bytes) s)) s o (s .plain) r j room bytes (kin .rel .base .joined) place-is))
           (cond-two Kin (takesSnapshot o r j room bytes) (takesSnapshot o r j room bytes) refl _ _ _ _
-            (λ t. record { loop = Upto (packetHead bytes .version) (packetHead bytes .number); rel = snapshot-ok bytes (fed (snapshot-taken j room bytes ∙ t)) (kin .loop) s r (kin .rel) })
-            (λ _. kin))
+          (λ t. record { loop = Upto (packetHead bytes .version) (packetHead bytes .number); rel = snapshot-ok bytes (fed (snapshot-taken j room bytes ∙ t)) (kin .loop) s r (kin .rel) })
+          (λ _. kin))
 
       join-ok : Kin (step K o s join) (reachStep K o r join)
       join-ok = subst (λ (x : State V O). Kin x (reachStep K o r join)) (sym (join-verdict _ s (s .plain .joined)))
-        (cond-two Kin (s .plain .joined) (r .joined) (sym (kin .rel .base .joined)) _ _ _ _ (λ _. kin)
-          (λ _. let b = kin .rel .base in record { loop = kin .loop; rel = record {
-            base = record { heard = b .heard; there = b .there; joined = refl; follow = b .follow; place = b .place; room = b .room; shelf = b .shelf; books = b .books };
-            group = kin .rel .group } }))
+          (cond-two Kin (s .plain .joined) (r .joined) (sym (kin .rel .base .joined)) _ _ _ _ (λ _. kin)
+          (λ _. let b = kin .rel .base in record {
+            loop = kin .loop;
+            rel = record {
+              base = record { heard = b .heard; there = b .there; joined = refl; follow = b .follow; place = b .place; room = b .room; shelf = b .shelf; books = b .books };
+              group = kin .rel .group;
+            };
+          }))
 
       leave-ok : (j : ℕ) → Kin (step K o s (leave j)) (reachStep K o r (leave j))
       leave-ok j = subst (λ (x : State V O). Kin x (reachStep K o r (leave j))) (sym (leave-verdict _ s (s .plain .joined && eqb j (o .own))))
-        (cond-two Kin (s .plain .joined && eqb j (o .own)) (r .joined && eqb j (o .own)) (ap (λ b. b && eqb j (o .own)) (sym (kin .rel .base .joined))) _ _ _ _
-          (λ _. let b = kin .rel .base in record { loop = Nothing; rel = record {
-            base = record { heard = b .heard; there = b .there; joined = refl; follow = refl; place = refl; room = b .room; shelf = b .shelf; books = b .books };
-            group = tt } })
+          (cond-two Kin (s .plain .joined && eqb j (o .own)) (r .joined && eqb j (o .own)) (ap (λ b. b && eqb j (o .own)) (sym (kin .rel .base .joined))) _ _ _ _
+          (λ _. let b = kin .rel .base in record {
+            loop = Nothing;
+            rel = record {
+              base = record { heard = b .heard; there = b .there; joined = refl; follow = refl; place = refl; room = b .room; shelf = b .shelf; books = b .books };
+              group = tt;
+            };
+          })
           (λ _. kin))
 
       pub step-ok : (c : Call) → (taken o (s .plain) c ≡ true → Brings P o c) → Kin (step K o s c) (reachStep K o r c)
@@ -209,6 +219,10 @@ module _ {V O : Type 0} (K : Kind V O) (P : Publisher) (Image : HeaderFields →
     run-ok (c ∷ cs) s r kin fed = run-ok cs (step K o s c) (reachStep K o r c) (step-ok s r kin c (fed .0)) (fed .1)
 
     pub opened-ok : (store : Model V O) → length (o .watch) ≤ length (store .slots) → Kin (opened K o store) (untouched o)
-    opened-ok store le = record { loop = Nothing; rel = record {
-      base = record { heard = refl; there = λ k. refl; joined = refl; follow = refl; place = refl; room = le; shelf = λ k. tt; books = λ i w. rw (w) (value-zero i, refl) };
-      group = tt } }
+    opened-ok store le = record {
+      loop = Nothing;
+      rel = record {
+        base = record { heard = refl; there = λ k. refl; joined = refl; follow = refl; place = refl; room = le; shelf = λ k. tt; books = λ i w. rw (w) (value-zero i, refl) };
+        group = tt;
+      };
+    }

@@ -19,7 +19,8 @@ use Rattle.recovery.specs.Shelf.{isThere}
 use Rattle.recovery.specs.State.{Opening, Plain}
 use Rattle.recovery.specs.Answers.{refuses, framed, lawfulVersion, incrementalAnswer, snapshotCheck, again, isNext}
 use Rattle.recovery.specs.Updates.{whenTaken, whenOk}
-use Rattle.recovery.specs.Reach.{Reach, sound, takesPacket, takesSnapshot, seen, due}
+use Rattle.recovery.specs.Extents.{Reach, seen, due}
+use Rattle.recovery.specs.Reach.{sound, takesPacket, takesSnapshot}
 use Rattle.recovery.proofs.Basics.{by-test, ltb-not}
 use Rattle.recovery.proofs.Kin.{placeOf}
 
@@ -31,12 +32,12 @@ some-not n = by-test (eqb n 0) (λ t. ap (ltb 0) (eqb-true n 0 t) ∙ sym (ap no
 
 lawful-same : (v : ℕ) → lawfulVersion v ≡ (leb 1 v && leb v 65534)
 lawful-same v = ap₂ (λ a b. a && b)
-  (by-test (ltb 0 v) (λ t. t ∙ sym (le-leb 1 v (let l = ltb-true 0 v t in omega (arith, l)))) (λ t. t ∙ sym (lt-leb 1 v (let l = ltb-false 0 v t in omega (arith, l)))))
-  (by-test (ltb v 65535) (λ t. t ∙ sym (le-leb v 65534 (let l = ltb-true v 65535 t in omega (arith, l)))) (λ t. t ∙ sym (lt-leb v 65534 (let l = ltb-false v 65535 t in omega (arith, l)))))
+    (by-test (ltb 0 v) (λ t. t ∙ sym (le-leb 1 v (let l = ltb-true 0 v t in omega (arith, l)))) (λ t. t ∙ sym (lt-leb 1 v (let l = ltb-false 0 v t in omega (arith, l)))))
+    (by-test (ltb v 65535) (λ t. t ∙ sym (le-leb v 65534 (let l = ltb-true v 65535 t in omega (arith, l)))) (λ t. t ∙ sym (lt-leb v 65534 (let l = ltb-false v 65535 t in omega (arith, l)))))
 
 -- the chain of checks, with what each test comes to
 packet-chain : {A : Type 0} (t s : A) (room : ℕ) (short : Bool) (x : Result (Unit {0}) FrameFault) (ours version zero late known : Bool)
-  → whenTaken (andThen (andThen (andThen (refuses short (Shelf room)) (λ _. framed x)) (λ _. andThen (refuses (not ours) Channel) (λ _. andThen (refuses (not version) Version) (λ _. andThen (refuses zero Number) (λ _. refuses late Late))))) (λ _. Ok (cond known Repeat Taken))) t s
+    → whenTaken (andThen (andThen (andThen (refuses short (Shelf room)) (λ _. framed x)) (λ _. andThen (refuses (not ours) Channel) (λ _. andThen (refuses (not version) Version) (λ _. andThen (refuses zero Number) (λ _. refuses late Late))))) (λ _. Ok (cond known Repeat Taken))) t s
     ≡ cond ((not short && (isOk x && ours)) && (version && (not zero && (not late && not known)))) t s
 packet-chain t s room true x ours version zero late known = refl
 packet-chain t s room false (Err e) ours version zero late known = refl
@@ -48,14 +49,14 @@ packet-chain t s room false (Ok u) true true false false true = refl
 packet-chain t s room false (Ok u) true true false false false = refl
 
 pub packet-verdict : {A : Type 0} (t s : A) (o : Opening) (p : Plain) (r : Reach) (room : ℕ) (bytes : List ℕ) → r .heard ≡ p .heard → r .there (packetHead bytes .number) ≡ isThere (p .shelf (packetHead bytes .number))
-  → whenTaken (incrementalAnswer o p room bytes) t s ≡ cond (takesPacket o r room bytes) t s
+    → whenTaken (incrementalAnswer o p room bytes) t s ≡ cond (takesPacket o r room bytes) t s
 packet-verdict t s o p r room bytes h th =
-  packet-chain t s room (ltb room 44800) (packetCheck (o .sheet) bytes) (eqb (packetHead bytes .channel) (o .channel)) (eqb (packetHead bytes .version) (o .version))
+    packet-chain t s room (ltb room 44800) (packetCheck (o .sheet) bytes) (eqb (packetHead bytes .channel) (o .channel)) (eqb (packetHead bytes .version) (o .version))
     (eqb (packetHead bytes .number) 0) (leb (packetHead bytes .number + 32) (p .heard)) (isThere (p .shelf (packetHead bytes .number)))
-  ∙ sym (rw (h, th, leb-not 44800 room, some-not (packetHead bytes .number), ltb-not (p .heard) (packetHead bytes .number + 32)))
+    ∙ sym (rw (h, th, leb-not 44800 room, some-not (packetHead bytes .number), ltb-not (p .heard) (packetHead bytes .number + 32)))
 
 snapshot-chain : {A : Type 0} (t s : A) (room : ℕ) (present short : Bool) (x : Result (Unit {0}) FrameFault) (ours version zero known : Bool)
-  → whenOk (andThen (refuses (not present) Join) (λ _. andThen (andThen (refuses short (Shelf room)) (λ _. framed x)) (λ _. andThen (refuses (not ours) Channel) (λ _. andThen (refuses (not version) Version) (λ _. refuses zero Number))))) (cond known s t) s
+    → whenOk (andThen (refuses (not present) Join) (λ _. andThen (andThen (refuses short (Shelf room)) (λ _. framed x)) (λ _. andThen (refuses (not ours) Channel) (λ _. andThen (refuses (not version) Version) (λ _. refuses zero Number))))) (cond known s t) s
     ≡ cond (present && ((not short && (isOk x && ours)) && (version && (not zero && not known)))) t s
 snapshot-chain t s room false short x ours version zero known = refl
 snapshot-chain t s room true true x ours version zero known = refl
@@ -75,11 +76,11 @@ due-next Nothing l n = refl
 due-next (Upto a b) l n = refl
 
 pub snapshot-verdict : {A : Type 0} (t s : A) (o : Opening) (p : Plain) (r : Reach) (j room : ℕ) (bytes : List ℕ) → r .joined ≡ p .joined → r .place ≡ placeOf (p .followed)
-  → whenOk (snapshotCheck o p j room bytes) (cond (again (p .followed) (packetHead bytes .version) (packetHead bytes .number)) s t) s ≡ cond (takesSnapshot o r j room bytes) t s
+    → whenOk (snapshotCheck o p j room bytes) (cond (again (p .followed) (packetHead bytes .version) (packetHead bytes .number)) s t) s ≡ cond (takesSnapshot o r j room bytes) t s
 snapshot-verdict t s o p r j room bytes jo pl =
-  snapshot-chain t s room (p .joined && eqb j (o .own)) (ltb room 44800) (packetCheck (o .sheet) bytes) (eqb (packetHead bytes .channel) (o .channel)) (lawfulVersion (packetHead bytes .version))
+    snapshot-chain t s room (p .joined && eqb j (o .own)) (ltb room 44800) (packetCheck (o .sheet) bytes) (eqb (packetHead bytes .channel) (o .channel)) (lawfulVersion (packetHead bytes .version))
     (eqb (packetHead bytes .number) 0) (again (p .followed) (packetHead bytes .version) (packetHead bytes .number))
-  ∙ sym (rw (jo, pl, leb-not 44800 room, some-not (packetHead bytes .number), ← (lawful-same (packetHead bytes .version)), seen-again (p .followed) (packetHead bytes .version) (packetHead bytes .number)))
+    ∙ sym (rw (jo, pl, leb-not 44800 room, some-not (packetHead bytes .number), ← (lawful-same (packetHead bytes .version)), seen-again (p .followed) (packetHead bytes .version) (packetHead bytes .number)))
 
 pub join-verdict : {A : Type 0} (t s : A) (b : Bool) → whenOk (refuses b Join) t s ≡ cond b s t
 join-verdict t s true = refl
