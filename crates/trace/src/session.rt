@@ -8,11 +8,7 @@ use packet::message::Message;
 use packet::rules::check;
 use refusal::Refusal;
 use refusal::RefusalDisplay;
-<<<<<<< HEAD
 use sheet_text::filling::fill;
-=======
-use sheet_text::fill::fill;
->>>>>>> bd9c0ae31b9cd5e9cc3ad182727c3415f29808f0
 use sheet_text::text::cut;
 use std::alloc::AllocError;
 use std::alloc::Global;
