@@ -63,7 +63,7 @@ unfolding numbered
 numbered-map xs [] id = refl
 numbered-map xs (f ∷ fs) id = ap (λ b. eqb (f .template) id || b) (numbered-map xs fs id)
 
-unlisted-firsts : (before ys : List FieldLine) (id : ℕ) → listed ys id ≡ false → listed (firsts before ys) id ≡ false
+pub unlisted-firsts : (before ys : List FieldLine) (id : ℕ) → listed ys id ≡ false → listed (firsts before ys) id ≡ false
 unlisted-firsts before [] id h = refl
 unlisted-firsts before (y ∷ ys) id h =
     let p = or-parts (eqb (y .template) id) (listed ys id) h in

@@ -13,6 +13,7 @@ use Rattle.std.specs.Results.{Cases}
 use Rattle.std.specs.declared.result.Result.{Result}
 use Rattle.std.specs.declared.option.Option.{Option}
 use Rattle.std.specs.declared.option.Option.the-variants.{Some, None}
+use Rattle.layout.specs.declared.template.Template.{Template}
 use Rattle.sheet_text.specs.declared.types.Field.{Field}
 use Rattle.sheet_text.specs.declared.types.FieldLine.{FieldLine}
 use Rattle.sheet_text.specs.declared.types.SheetFault.{SheetFault}
@@ -21,10 +22,11 @@ use Rattle.sheet_text.specs.Names.{sameField, sameKind, fieldsOf}
 use Rattle.sheet_text.specs.FieldLines.{fieldLine}
 use Rattle.sheet_text.specs.Follows.{listed, named, missing, lastOf, lacks, complete, goesOn, roomFor, mayFollow}
 use Rattle.sheet_text.specs.Sheets.{right, mayEnd, firstWrong, follows, fieldLines, withLine, answer}
-use Rattle.sheet_text.specs.Meaning.{spotOf}
+use Rattle.sheet_text.specs.Meaning.{spotOf, listing, templatesOf, templatesIn}
 use Rattle.sheet_text.specs.Laws.{Honoured}
 use Rattle.sheet_text.proofs.Missing.{unlisted-unnamed, missing-no-more, last-push}
 use Rattle.sheet_text.proofs.Keeps.{going}
+use Rattle.sheet_text.proofs.Finds.{Has, has-old, has-new, has-last, has-found}
 
 -- a right row, and what is behind it
 past : (b : Bool) (o : Option ℕ) (n : ℕ) → cond b o (Some n) ≡ None → (b ≡ true) × (o ≡ None)
@@ -69,6 +71,8 @@ abbrev Ready : List FieldLine → FieldLine → Type 0
 Ready xs y = (missing xs (y .template) (fieldsOf (y .kind)) ≡ 0) ⊎ (goesOn (lastOf xs) y ≡ true)
 
 record Steps (xs : List FieldLine) : Type 0 where
+  has : (zs : List FieldLine) (k : ℕ) (d : FieldLine) → k < length xs → Has zs xs (getD xs k d)
+  last : (zs : List FieldLine) (w : FieldLine) → lastOf xs ≡ Some w → Has zs xs w
   placed : (k : ℕ) (d : FieldLine) → k < length xs → spotOf xs ((getD xs k d) .template) ((getD xs k d) .field) ≡ (getD xs k d) .spot
   ready : (k : ℕ) (d : FieldLine) → k < length xs → Ready xs (getD xs k d)
 
@@ -101,7 +105,14 @@ ready-old xs z y h (inr g) =
 steps-push : (xs : List FieldLine) (z : FieldLine) → Steps xs → mayFollow xs z ≡ true → Steps (xs ++ z ∷ [])
 steps-push xs z s h =
     let long = length-push xs z in
+    let new : (zs : List FieldLine) → Has zs (xs ++ z ∷ []) z = λ zs. has-new zs xs z h (s .last zs) in
     record {
+      has = (λ zs k d l.
+          ⊎-elim
+          (λ lt. subst (Has zs (xs ++ z ∷ [])) (sym (getD-append-left xs (z ∷ []) d k lt)) (has-old zs xs z (getD xs k d) (s .has zs k d lt)))
+          (λ ge. let e : length xs ≡ k = omega arith in subst (Has zs (xs ++ z ∷ [])) (sym (getD-push xs z d k e)) (new zs))
+          (cases-lt k (length xs)));
+      last = (λ zs w e. has-last zs xs z w (new zs) e);
       placed = (λ k d l.
           ⊎-elim
           (λ lt.
@@ -120,11 +131,14 @@ steps-push xs z s h =
           (cases-lt k (length xs)));
     }
 
-ends : (xs : List FieldLine) → Steps xs → complete xs ≡ true → Honoured xs
-ends xs s c = record { placed = s .placed; whole = (λ k d l. completes xs (getD xs k d) c (s .ready k d l)) }
+ends : (ts : List Template) (xs : List FieldLine) → listing ts ≡ templatesOf xs → Steps xs → complete xs ≡ true → Honoured ts xs
+ends ts xs f s c = record { found = (λ k d l. has-found ts xs (getD xs k d) f (s .has xs k d l)); placed = s .placed; whole = (λ k d l. completes xs (getD xs k d) c (s .ready k d l)) }
+
+empty-last : (w : FieldLine) → _≡_ {A = Option FieldLine} None (Some w) → ⊥
+empty-last w e = let z : _≡_ {A = ℕ} 0 1 = cc in omega arith
 
 no-lines : Steps []
-no-lines = record { placed = (λ k d l. absurd (omega arith)); ready = (λ k d l. absurd (omega arith)) }
+no-lines = record { has = (λ zs k d l. absurd (omega arith)); last = (λ zs w e. absurd (empty-last w e)); placed = (λ k d l. absurd (omega arith)); ready = (λ k d l. absurd (omega arith)) }
 
 steps-line : (xs : List FieldLine) (o : Option FieldLine) → Steps xs → follows xs o ≡ true → Steps (xs ++ withLine o [])
 steps-line xs None s h = absurd (false≢true h)
@@ -138,34 +152,40 @@ lines-more : (rs : List Row) (r : Row) → fieldLines (rs ++ r ∷ []) ≡ field
 lines-more [] r = refl
 lines-more (q ∷ rs) r = ap (withLine (andThen q fieldLine)) (lines-more rs r) ∙ with-more (andThen q fieldLine) (fieldLines rs) (withLine (andThen r fieldLine) [])
 
-onward : (a b c d : Row) (passed rs : List Row) → Steps (fieldLines passed) → firstWrong (a ∷ b ∷ c ∷ d ∷ passed) rs ≡ None → Honoured (fieldLines (passed ++ rs))
-onward a b c d passed [] s h =
-    subst (λ l. Honoured (fieldLines l)) (sym (append-nil passed)) (ends (fieldLines passed) s (past (complete (fieldLines passed)) None (length (a ∷ b ∷ c ∷ d ∷ passed) + 1) h .0))
-onward a b c d passed (None ∷ rs) s h = absurd (never _ h)
-onward a b c d passed (Some l ∷ rs) s h =
+abbrev Held : List Template → List Row → Type 0
+Held ts rs = listing ts ≡ templatesOf (fieldLines rs) → Honoured ts (fieldLines rs)
+
+onward : (ts : List Template) (a b c d : Row) (passed rs : List Row) → Steps (fieldLines passed) → firstWrong (a ∷ b ∷ c ∷ d ∷ passed) rs ≡ None → Held ts (passed ++ rs)
+onward ts a b c d passed [] s h =
+    subst (Held ts) (sym (append-nil passed)) (λ f. ends ts (fieldLines passed) f s (past (complete (fieldLines passed)) None (length (a ∷ b ∷ c ∷ d ∷ passed) + 1) h .0))
+onward ts a b c d passed (None ∷ rs) s h = absurd (never _ h)
+onward ts a b c d passed (Some l ∷ rs) s h =
     let p = past (follows (fieldLines passed) (fieldLine l)) (firstWrong (a ∷ b ∷ c ∷ d ∷ passed ++ Some l ∷ []) rs) (length (a ∷ b ∷ c ∷ d ∷ passed) + 1) h in
     let more = subst Steps (sym (lines-more passed (Some l))) (steps-line (fieldLines passed) (fieldLine l) s (p .0)) in
-    subst (λ l. Honoured (fieldLines l)) (append-assoc passed (Some l ∷ []) rs) (onward a b c d (passed ++ Some l ∷ []) rs more (p .1))
+    subst (Held ts) (append-assoc passed (Some l ∷ []) rs) (onward ts a b c d (passed ++ Some l ∷ []) rs more (p .1))
 
-accepted : (rs : List Row) → firstWrong [] rs ≡ None → Honoured (fieldLines (drop 4 rs))
-accepted [] h = absurd (never _ h)
-accepted (a ∷ []) h = absurd (never _ (past (right [] a) (firstWrong (a ∷ []) []) 1 h .1))
-accepted (a ∷ b ∷ []) h =
+accepted : (ts : List Template) (rs : List Row) → firstWrong [] rs ≡ None → Held ts (drop 4 rs)
+accepted ts [] h = absurd (never _ h)
+accepted ts (a ∷ []) h = absurd (never _ (past (right [] a) (firstWrong (a ∷ []) []) 1 h .1))
+accepted ts (a ∷ b ∷ []) h =
     let p = past (right [] a) (firstWrong (a ∷ []) (b ∷ [])) 1 h .1 in
     absurd (never _ (past (right (a ∷ []) b) (firstWrong (a ∷ b ∷ []) []) 2 p .1))
-accepted (a ∷ b ∷ c ∷ []) h =
+accepted ts (a ∷ b ∷ c ∷ []) h =
     let p = past (right [] a) (firstWrong (a ∷ []) (b ∷ c ∷ [])) 1 h .1 in
     let q = past (right (a ∷ []) b) (firstWrong (a ∷ b ∷ []) (c ∷ [])) 2 p .1 in
     absurd (never _ (past (right (a ∷ b ∷ []) c) (firstWrong (a ∷ b ∷ c ∷ []) []) 3 q .1))
-accepted (a ∷ b ∷ c ∷ d ∷ rs) h =
+accepted ts (a ∷ b ∷ c ∷ d ∷ rs) h =
     let p = past (right [] a) (firstWrong (a ∷ []) (b ∷ c ∷ d ∷ rs)) 1 h .1 in
     let q = past (right (a ∷ []) b) (firstWrong (a ∷ b ∷ []) (c ∷ d ∷ rs)) 2 p .1 in
     let r = past (right (a ∷ b ∷ []) c) (firstWrong (a ∷ b ∷ c ∷ []) (d ∷ rs)) 3 q .1 in
-    onward a b c d [] rs no-lines (past (right (a ∷ b ∷ c ∷ []) d) (firstWrong (a ∷ b ∷ c ∷ d ∷ []) rs) 4 r .1)
+    onward ts a b c d [] rs no-lines (past (right (a ∷ b ∷ c ∷ []) d) (firstWrong (a ∷ b ∷ c ∷ d ∷ []) rs) 4 r .1)
 
-held : (rs : List Row) (o : Option ℕ) → firstWrong [] rs ≡ o → Cases (answer o) (λ _. Honoured (fieldLines (drop 4 rs))) (λ _. Unit {0})
-held rs None h = accepted rs h
-held rs (Some n) h = tt
+abbrev Filled : List Template → List Row → Result (Unit {0}) SheetFault → Type 0
+Filled ts rs r = Cases r (λ _. listing ts ≡ templatesIn rs) (λ _. Unit {0}) → Cases r (λ _. Honoured ts (fieldLines (drop 4 rs))) (λ _. Unit {0})
 
-pub honours : (rs : List Row) (r : Result (Unit {0}) SheetFault) → r ≡ answer (firstWrong [] rs) → Cases r (λ _. Honoured (fieldLines (drop 4 rs))) (λ _. Unit {0})
-honours rs r e = subst (λ a. Cases a (λ _. Honoured (fieldLines (drop 4 rs))) (λ _. Unit {0})) (sym e) (held rs (firstWrong [] rs) refl)
+held : (ts : List Template) (rs : List Row) (o : Option ℕ) → firstWrong [] rs ≡ o → Filled ts rs (answer o)
+held ts rs None h f = accepted ts rs h f
+held ts rs (Some n) h f = tt
+
+pub honours : (ts : List Template) (rs : List Row) (r : Result (Unit {0}) SheetFault) → r ≡ answer (firstWrong [] rs) → Filled ts rs r
+honours ts rs r e = subst (Filled ts rs) (sym e) (held ts rs (firstWrong [] rs) refl)

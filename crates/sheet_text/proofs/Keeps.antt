@@ -26,7 +26,7 @@ sound-push (y ∷ xs) x h s =
     let p = and-parts (sound y) (allSound xs) h in
     ap (λ b. b && allSound (xs ++ x ∷ [])) (p .0) ∙ sound-push xs x (p .1) s
 
-firsts-push : (xs : List FieldLine) (x : FieldLine) (b : Bool) → listed xs (x .template) ≡ b → firsts [] (xs ++ x ∷ []) ≡ firsts [] xs ++ cond b [] (x ∷ [])
+pub firsts-push : (xs : List FieldLine) (x : FieldLine) (b : Bool) → listed xs (x .template) ≡ b → firsts [] (xs ++ x ∷ []) ≡ firsts [] xs ++ cond b [] (x ∷ [])
 firsts-push xs x b e =
     firsts-split [] xs (x ∷ []) ∙ ap (λ l. firsts [] xs ++ l) (append-nil (cond (listed xs (x .template)) [] (x ∷ [])) ∙ ap (λ b. cond b [] (x ∷ [])) e)
 

@@ -11,3 +11,4 @@ pub mod Layouts
 pub mod Builds
 pub mod Judges
 pub mod Honours
+pub mod Finds

@@ -6,12 +6,14 @@ use Prim.Native.Nat.{ℕ, _+_, _≤_, _<_}
 use lib.ListN.{length, getD, take}
 use Rattle.std.specs.declared.option.Option.{Option}
 use Rattle.std.specs.declared.option.Option.the-variants.{Some, None}
+use Rattle.layout.specs.declared.template.Template.{Template}
+use Rattle.layout.specs.Lawful.{find}
 use Rattle.sheet_text.specs.declared.types.FieldLine.{FieldLine}
 use Rattle.sheet_text.specs.Text.{Row}
 use Rattle.sheet_text.specs.Names.{fieldsOf}
 use Rattle.sheet_text.specs.Follows.{missing}
 use Rattle.sheet_text.specs.Sheets.{right, mayEnd}
-use Rattle.sheet_text.specs.Meaning.{spotOf}
+use Rattle.sheet_text.specs.Meaning.{spotOf, layoutOf}
 
 -- each of the first n rows is right behind those before it
 abbrev pub RightBelow : List Row → ℕ → Type 0
@@ -31,7 +33,9 @@ pub record RefusedAt (rs : List Row) (n : ℕ) : Type 0 where
   pub wrong : place < length rs → right (take place rs) (getD rs place None) ≡ false
   pub lacking : place ≡ length rs → mayEnd rs ≡ false
 
--- each field lies where the line that names it says, and no line's template lacks a field of the line's kind
-pub record Honoured (xs : List FieldLine) : Type 0 where
+-- a sheet finds the template of each line, with a layout of the line's kind, whose every field lies where the line that names
+-- it says and which lacks none
+pub record Honoured (ts : List Template) (xs : List FieldLine) : Type 0 where
+  pub found : (k : ℕ) (d : FieldLine) → k < length xs → find ts ((getD xs k d) .template) ≡ Some (layoutOf xs ((getD xs k d) .template) ((getD xs k d) .kind))
   pub placed : (k : ℕ) (d : FieldLine) → k < length xs → spotOf xs ((getD xs k d) .template) ((getD xs k d) .field) ≡ (getD xs k d) .spot
   pub whole : (k : ℕ) (d : FieldLine) → k < length xs → missing xs ((getD xs k d) .template) (fieldsOf ((getD xs k d) .kind)) ≡ 0

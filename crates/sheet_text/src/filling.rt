@@ -45,7 +45,7 @@ pub fn fill(sheet: &mut Sheet, text: &[u8]) -> Result<(), SheetFault>
     ensures answer { λ r. ⌜ r ≡ answer (firstWrong [] (rows (now (text .entry)))) ⌝ }
     ensures filled { λ r. ⌜ Cases r (λ _. (actionsIn (rows (now (text .entry))) ≡ Some (now (sheet .exit) .actions)) × (listing (vec-items (now (sheet .exit) .templates)) ≡ templatesIn (rows (now (text .entry))))) (λ _. now (sheet .exit) ≡ now (sheet .entry)) ⌝ }
     ensures judged { λ r. ⌜ Cases r (λ _. Accepted (rows (now (text .entry)))) (λ e. RefusedAt (rows (now (text .entry))) (e .line)) ⌝ }
-    ensures honoured { λ r. ⌜ Cases r (λ _. Honoured (fieldLines (drop 4 (rows (now (text .entry)))))) (λ _. Unit {0}) ⌝ }
+    ensures honoured { λ r. ⌜ Cases r (λ _. Honoured (vec-items (now (sheet .exit) .templates)) (fieldLines (drop 4 (rows (now (text .entry)))))) (λ _. Unit {0}) ⌝ }
 {
     load(sheet, text)
 }
