@@ -16,7 +16,7 @@ use Rattle.layout.specs.declared.kinds.Layout.{Layout}
 use Rattle.layout.specs.declared.template.Template.{Template}
 use Rattle.layout.specs.Lawful.{lawful, lawfulEach, lawfulLayout, isNone, find, isStat, statCount, different}
 
-none-cond : (e : Bool) (y : Layout) (o : Option Layout) → isNone (cond e (Some y) o) ≡ (not e && isNone o)
+pub none-cond : (e : Bool) (y : Layout) (o : Option Layout) → isNone (cond e (Some y) o) ≡ (not e && isNone o)
 none-cond true y o = refl
 none-cond false y o = refl
 

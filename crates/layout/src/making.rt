@@ -1,5 +1,5 @@
 ghost use mathlib.Core.Path.{_≡_};
-ghost use mathlib.Core.Bool.{true, cond, _&&_};
+ghost use mathlib.Core.Bool.{true, false, cond, _&&_};
 ghost use mathlib.Core.List.{_++_, _∷_, []};
 ghost use Prim.Native.Nat.{_+_, _≤_, _<_, min};
 ghost use lib.Dec.{leb};
@@ -163,6 +163,7 @@ impl Sheet {
         ensures different { λ r. ⌜ r ≡ different actions ⌝ }
         ensures actions { λ r. ⌜ now (self .exit) .actions ≡ cond r actions (now (self .entry) .actions) ⌝ }
         ensures templates { λ r. ⌜ vec-items (now (self .exit) .templates) ≡ cond r [] (vec-items (now (self .entry) .templates)) ⌝ }
+        ensures refused { λ r. ⌜ (r ≡ false → now (self .exit) ≡ now (self .entry)) ⌝ }
     {
         if !are_different(actions) {
             return false;
@@ -204,6 +205,7 @@ impl Sheet {
         ensures lawful { λ r. ⌜ r ≡ lawful (now (self .entry) .actions) (vec-items (now (self .entry) .templates) ++ t ∷ []) ⌝ }
         ensures actions { λ r. ⌜ now (self .exit) .actions ≡ now (self .entry) .actions ⌝ }
         ensures templates { λ r. ⌜ vec-items (now (self .exit) .templates) ≡ cond r (vec-items (now (self .entry) .templates) ++ t ∷ []) (vec-items (now (self .entry) .templates)) ⌝ }
+        ensures refused { λ r. ⌜ (r ≡ false → now (self .exit) ≡ now (self .entry)) ⌝ }
     {
         if !self.may_add(t) {
             return false;

@@ -13,7 +13,7 @@ use Rattle.std.specs.declared.option.Option.the-variants.{Some, None}
 use Rattle.layout.specs.declared.kinds.Actions.{Actions}
 use Rattle.layout.specs.declared.kinds.Layout.{Layout}
 use Rattle.layout.specs.declared.template.Template.{Template}
-use Rattle.layout.proofs.Adds.{push-lawful}
+use Rattle.layout.proofs.Adds.{push-lawful, none-cond}
 use Rattle.layout.specs.Lawful.{lawful, lawfulLayout, isStat, statCount, isNone, find}
 use Rattle.sheet_text.specs.declared.types.Kind.the-variants.{Stat}
 use Rattle.sheet_text.specs.declared.types.FieldLine.{FieldLine}
@@ -43,10 +43,6 @@ unfolding statsIn
 stats-map xs [] = refl
 stats-map xs (f ∷ fs) =
     ap (λ b. cond b 1 0 + statsIn (map (templateOf xs) fs)) (layout-stat xs (f .template) (f .kind)) ∙ ap (λ n. cond (sameKind (f .kind) Stat) 1 0 + n) (stats-map xs fs)
-
-none-cond : (e : Bool) (y : Layout) (o : Option Layout) → isNone (cond e (Some y) o) ≡ (not e && isNone o)
-none-cond true y o = refl
-none-cond false y o = refl
 
 not-or : (a b : Bool) → not (a || b) ≡ (not a && not b)
 not-or true b = refl

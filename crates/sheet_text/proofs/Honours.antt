@@ -26,6 +26,7 @@ use Rattle.sheet_text.specs.Meaning.{spotOf, listing, templatesOf, templatesIn
 use Rattle.sheet_text.specs.Laws.{Honoured}
 use Rattle.sheet_text.proofs.Missing.{unlisted-unnamed, missing-no-more, last-push}
 use Rattle.sheet_text.proofs.Keeps.{going}
+use Rattle.sheet_text.proofs.Progress.{lines-more}
 use Rattle.sheet_text.proofs.Finds.{Has, has-old, has-new, has-last, has-found}
 
 -- a right row, and what is behind it
@@ -143,14 +144,6 @@ no-lines = record { has = (λ zs k d l. absurd (omega arith)); last = (λ zs w e
 steps-line : (xs : List FieldLine) (o : Option FieldLine) → Steps xs → follows xs o ≡ true → Steps (xs ++ withLine o [])
 steps-line xs None s h = absurd (false≢true h)
 steps-line xs (Some x) s h = steps-push xs x s h
-
-with-more : (o : Option FieldLine) (xs ys : List FieldLine) → withLine o (xs ++ ys) ≡ withLine o xs ++ ys
-with-more None xs ys = refl
-with-more (Some x) xs ys = refl
-
-lines-more : (rs : List Row) (r : Row) → fieldLines (rs ++ r ∷ []) ≡ fieldLines rs ++ withLine (andThen r fieldLine) []
-lines-more [] r = refl
-lines-more (q ∷ rs) r = ap (withLine (andThen q fieldLine)) (lines-more rs r) ∙ with-more (andThen q fieldLine) (fieldLines rs) (withLine (andThen r fieldLine) [])
 
 abbrev Held : List Template → List Row → Type 0
 Held ts rs = listing ts ≡ templatesOf (fieldLines rs) → Honoured ts (fieldLines rs)

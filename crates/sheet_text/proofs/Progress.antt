@@ -76,13 +76,15 @@ pub reads-unfit : (text rest l : List ℕ) (rs : List Row) (lines : List FieldLi
 reads-unfit text rest l rs lines n r e h line =
     sym (r .wrong line) ∙ (ap (firstWrong (openingRows line ++ r .passed)) e ∙ stops line (r .passed) (Some l) rs n (r .count) (ap (λ xs. follows xs (fieldLine l)) (r .found) ∙ h))
 
-with-push : (o : Option FieldLine) (xs : List FieldLine) (x : FieldLine) → withLine o (xs ++ x ∷ []) ≡ withLine o xs ++ x ∷ []
-with-push None xs x = refl
-with-push (Some y) xs x = refl
+with-more : (o : Option FieldLine) (xs ys : List FieldLine) → withLine o (xs ++ ys) ≡ withLine o xs ++ ys
+with-more None xs ys = refl
+with-more (Some x) xs ys = refl
 
-lines-push : (rs : List Row) (l : List ℕ) (x : FieldLine) → fieldLine l ≡ Some x → fieldLines (rs ++ Some l ∷ []) ≡ fieldLines rs ++ x ∷ []
-lines-push [] l x e = ap (λ o. withLine o []) e
-lines-push (r ∷ rs) l x e = ap (withLine (andThen r fieldLine)) (lines-push rs l x e) ∙ with-push (andThen r fieldLine) (fieldLines rs) x
+-- the field lines of one row more
+pub lines-more : (rs : List Row) (r : Row) → fieldLines (rs ++ r ∷ []) ≡ fieldLines rs ++ withLine (andThen r fieldLine) []
+lines-more [] r = refl
+lines-more (q ∷ rs) r =
+    ap (withLine (andThen q fieldLine)) (lines-more rs r) ∙ with-more (andThen q fieldLine) (fieldLines rs) (withLine (andThen r fieldLine) [])
 
 pub reads-more : (text rest more l : List ℕ) (x : FieldLine) (lines : List FieldLine) (n : ℕ) → Reads text rest lines n → rows rest ≡ Some l ∷ rows more → fieldLine l ≡ Some x → sound x ≡ true → mayFollow (take n lines) x ≡ true → Reads text more (set lines n x) (n + 1) × (n < 320)
 reads-more text rest more l x lines n r e f s h =
@@ -96,7 +98,7 @@ reads-more text rest more l x lines n r e f s h =
       record {
         passed = r .passed ++ Some l ∷ [];
         count = length-push (r .passed) (Some l) ∙ ap (λ k. k + 1) (r .count);
-        found = lines-push (r .passed) l x f ∙ (ap (λ xs. xs ++ x ∷ []) (r .found) ∙ sym taken);
+        found = lines-more (r .passed) (Some l) ∙ (ap (λ o. fieldLines (r .passed) ++ withLine o []) f ∙ (ap (λ xs. xs ++ x ∷ []) (r .found) ∙ sym taken));
         whole = append-assoc (r .passed) (Some l ∷ []) (rows more) ∙ (ap (λ rs. r .passed ++ rs) (sym e) ∙ r .whole);
         wrong = (λ line. sym (ap (firstWrong (openingRows line ++ r .passed)) e ∙ cond-true _ _ _ fits) ∙ r .wrong line);
         kept = subst Kept (sym taken) (k .0);
