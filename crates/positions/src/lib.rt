@@ -36,8 +36,9 @@ pub fn insert<T: Copy>(table: &mut [T], n: usize, p: usize, x: T) -> bool
     if !fits_insert(table.len(), n, p) {
         return false;
     }
-    table.copy_within(p - 1..n, p);
-    table[p - 1] = x;
+    let at = p - 1;
+    table.copy_within(at..n, p);
+    table[at] = x;
     true
 }
 
