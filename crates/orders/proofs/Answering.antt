@@ -7,32 +7,27 @@ use native.Mathlib.Omega.{arith}
 use lib.Dec.{eqb, ltb}
 use lib.ListN.{length, getD, set}
 use Rattle.std.specs.declared.result.Result.{Result}
-use Rattle.std.specs.declared.result.Result.the-variants.{Ok, Err}
+use Rattle.std.specs.declared.result.Result.the-variants.{Ok}
 use Rattle.std.proofs.shelf.Lists.{set-getD, length-push}
 use Rattle.std.proofs.shelf.Tests.{cond-true, cond-false, eq-eqb, ne-eqb, and-parts, ltb-true}
 use Rattle.packet.specs.declared.values.EntryFields.{EntryFields}
 use Rattle.packet.specs.Meaning.{Body, entry}
-use Rattle.store.specs.declared.fault.StoreFault.{StoreFault}
-use Rattle.store.specs.declared.fault.StoreFault.the-variants.{Slot, Unfit, Owed}
 use Rattle.store.specs.Kind.{Model}
-use Rattle.store.specs.Calls.{hasSlot, inSlot, unless, fitsAt, withSlot, withStaged, fitsAnswer, applyAnswer, applied, addAnswer, added, adoptAnswer, adopted}
+use Rattle.store.specs.Calls.{fitsAt, valueAt, withSlot, withStaged, addAnswer, added}
 use Rattle.orders.specs.declared.due.Due.{Due}
 use Rattle.orders.specs.declared.rows.Rows.{Rows}
 use Rattle.orders.specs.declared.order_store.OrderStore.{OrderStore}
 use Rattle.orders.specs.Book.{Book, book, emptyBook, isSide, sideOf}
-use Rattle.orders.specs.Kind.{Setup, orders, fitsBook, afterBook}
-use Rattle.orders.specs.Staged.{dueOf, fitsEntry, noneDue}
+use Rattle.orders.specs.Kind.{Setup, orders, fitsBook}
+use Rattle.orders.specs.Staged.{dueOf, fitsEntry}
 use Rattle.orders.specs.Rows.{Puts, PutsBook, row, bookAt}
 use Rattle.orders.specs.Model.{setupOf, modelOf}
 use Rattle.orders.proofs.BothSides.{bids-put, offers-put}
-use Rattle.orders.proofs.Slots.{books, model, books-length, book-value, has, has-not, slot-put, staged-put, Sound, sound-staged}
+use Rattle.orders.proofs.Slots.{books, model, books-length, book-value, slot-put, staged-put, Sound, sound-staged}
 
 module _ (s : OrderStore) where
-  pub no-slot : {X : Type 0} (i : ℕ) (x y : X) → s .slots ≤ i → y ≡ cond (hasSlot (orders (setupOf s)) (modelOf s) i) x y
-  no-slot i x y h = sym (cond-false _ x y (has-not (s .rows) (s .slots) i h))
-
-  pub a-slot : {X : Type 0} (i : ℕ) (x y : X) → i < s .slots → x ≡ cond (hasSlot (orders (setupOf s)) (modelOf s) i) x y
-  a-slot i x y h = sym (cond-true _ x y (has (s .rows) (s .slots) i h))
+  pub in-slots : (i : ℕ) → i < length (modelOf s .slots) → i < s .slots
+  in-slots i h = omega (arith, books-length (s .rows) (s .slots))
 
   pub same-setup : (n : ℕ) → n ≡ s .rows .depth → _≡_ {A = Setup} (record { actions = s .actions; depth = n }) (setupOf s)
   same-setup n e = ap (λ d. record { actions = s .actions; depth = d }) e
@@ -40,33 +35,16 @@ module _ (s : OrderStore) where
   pub fits-slot : (i : ℕ) (b : Body) → i < s .slots → fitsBook (setupOf s) (bookAt (s .rows) (i + 1)) b ≡ fitsAt (orders (setupOf s)) (modelOf s) i b
   fits-slot i b h = ap (λ v. fitsBook (setupOf s) v b) (sym (book-value (s .rows) (s .slots) i emptyBook h))
 
-  pub applied-yes : (t : Rows) (i : ℕ) (b : Body) → i < s .slots → true ≡ fitsBook (setupOf s) (bookAt (s .rows) (i + 1)) b → PutsBook (s .rows) t (i + 1) (afterBook (setupOf s) (bookAt (s .rows) (i + 1)) b)
-      → (Ok tt ≡ applyAnswer (orders (setupOf s)) (modelOf s) i b) × (model t (s .slots) (s .owed) ≡ applied (orders (setupOf s)) (modelOf s) i b)
-  applied-yes t i b h f p =
-      let yes = sym (f ∙ fits-slot i b h) in (
-        sym (cond-true _ _ _ yes) ∙ a-slot i _ _ h,
-        slot-put (setupOf s) (s .rows) t (s .slots) (s .count) i _ (s .owed) h p
-            ∙ (ap (λ v. withSlot (orders (setupOf s)) (modelOf s) i (afterBook (setupOf s) v b)) (sym (book-value (s .rows) (s .slots) i emptyBook h))
-            ∙ (sym (cond-true _ _ _ yes) ∙ a-slot i _ _ h)),
-      )
-
-  pub applied-no : (t : Rows) (i : ℕ) (b : Body) → i < s .slots → false ≡ fitsBook (setupOf s) (bookAt (s .rows) (i + 1)) b → PutsBook (s .rows) t (i + 1) (bookAt (s .rows) (i + 1))
-      → (Err Unfit ≡ applyAnswer (orders (setupOf s)) (modelOf s) i b) × (model t (s .slots) (s .owed) ≡ applied (orders (setupOf s)) (modelOf s) i b)
-  applied-no t i b h f p =
-      let no = sym (f ∙ fits-slot i b h) in (
-        sym (cond-false _ _ _ no) ∙ a-slot i _ _ h,
-        slot-put (setupOf s) (s .rows) t (s .slots) (s .count) i _ (s .owed) h p
-            ∙ (ap (λ v. record { slots = set (books (s .rows) (s .slots)) i v; staged = bookAt (s .rows) 0; owed = s .owed }) (sym (book-value (s .rows) (s .slots) i emptyBook h))
-            ∙ (ap (λ l. record { slots = l; staged = bookAt (s .rows) 0; owed = s .owed }) (set-getD (books (s .rows) (s .slots)) i emptyBook)
-            ∙ (sym (cond-false _ _ _ no) ∙ a-slot i _ _ h))),
-      )
-
-  pub adopted-yes : (t : Rows) (i : ℕ) → i < s .slots → true ≡ noneDue (s .owed) → PutsBook (s .rows) t (i + 1) (bookAt (s .rows) 0)
-      → (Ok tt ≡ adoptAnswer (orders (setupOf s)) (modelOf s) i) × (model t (s .slots) (s .owed) ≡ adopted (orders (setupOf s)) (modelOf s) i)
-  adopted-yes t i h w p = (
-    sym (cond-true _ _ _ (sym w)) ∙ a-slot i _ _ h,
-    slot-put (setupOf s) (s .rows) t (s .slots) (s .count) i _ (s .owed) h p ∙ (sym (cond-true _ _ _ (sym w)) ∙ a-slot i _ _ h),
-  )
+  -- what a message that may not fit leaves
+  pub put-or-not : (t : Rows) (i : ℕ) (b : Bool) (f : Book → Book) → i < s .slots → PutsBook (s .rows) t (i + 1) (cond b (f (bookAt (s .rows) (i + 1))) (bookAt (s .rows) (i + 1)))
+      → model t (s .slots) (s .owed) ≡ cond b (withSlot (orders (setupOf s)) (modelOf s) i (f (valueAt (orders (setupOf s)) (modelOf s) i))) (modelOf s)
+  put-or-not t i true f h p =
+      slot-put (setupOf s) (s .rows) t (s .slots) (s .count) i _ (s .owed) h p
+      ∙ ap (λ v. withSlot (orders (setupOf s)) (modelOf s) i (f v)) (sym (book-value (s .rows) (s .slots) i emptyBook h))
+  put-or-not t i false f h p =
+      slot-put (setupOf s) (s .rows) t (s .slots) (s .count) i _ (s .owed) h p
+      ∙ (ap (λ v. record { slots = set (books (s .rows) (s .slots)) i v; staged = bookAt (s .rows) 0; owed = s .owed }) (sym (book-value (s .rows) (s .slots) i emptyBook h))
+      ∙ ap (λ l. record { slots = l; staged = bookAt (s .rows) 0; owed = s .owed }) (set-getD (books (s .rows) (s .slots)) i emptyBook))
 
   -- what an entry leaves, by whether its side is the bids
   entered : EntryFields → Bool → Model Book Due

@@ -5,13 +5,12 @@ use mathlib.Core.Bool.{Bool, true, false, cond}
 use mathlib.Core.List.{List, map}
 use Prim.Native.Nat.{ℕ, _+_, _*_, _≤_, _<_}
 use native.Mathlib.Omega.{arith}
-use lib.Dec.{ltb}
 use lib.ListN.{length, getD, set}
 use denote.Ref.{now}
 use Rattle.std.specs.Iters.{counting}
 use Rattle.std.proofs.shelf.Counted.{length-map-counting, getD-map-counting}
 use Rattle.std.proofs.shelf.Lists.{same-lists, length-set, getD-set-same, getD-set-other}
-use Rattle.std.proofs.shelf.Tests.{cases-eq, lt-ltb, le-ltb}
+use Rattle.std.proofs.shelf.Tests.{cases-eq}
 use Rattle.store.specs.Kind.{Model}
 use Rattle.store.specs.Calls.{withSlot, withStaged}
 use Rattle.orders.specs.declared.due.Due.{Due}
@@ -33,12 +32,6 @@ books-length r n = length-map-counting (bookAt r) 1 n
 
 pub book-value : (r : Rows) (n i : ℕ) (d : Book) → i < n → getD (books r n) i d ≡ bookAt r (i + 1)
 book-value r n i d h = getD-map-counting (bookAt r) 1 n i (i + 1) d h (omega arith)
-
-pub has : (r : Rows) (n i : ℕ) → i < n → ltb i (length (books r n)) ≡ true
-has r n i h = lt-ltb _ _ (omega (arith, books-length r n))
-
-pub has-not : (r : Rows) (n i : ℕ) → n ≤ i → ltb i (length (books r n)) ≡ false
-has-not r n i h = le-ltb _ _ (omega (arith, books-length r n))
 
 same-model : (a b : List Book) (x y : Book) (w : Due) → a ≡ b → x ≡ y → _≡_ {A = Model Book Due} (record { slots = a; staged = x; owed = w }) (record { slots = b; staged = y; owed = w })
 same-model a b x y w e f = ap (λ z. record { slots = z; staged = x; owed = w }) e ∙ ap (λ z. record { slots = b; staged = z; owed = w }) f

@@ -4,7 +4,6 @@ ghost use Rattle.orders.specs.Kind.{Setup, orders};
 ghost use Rattle.orders.specs.Image.{BookImage};
 ghost use Rattle.orders.specs.ImageLaw.{orders-image, orders-sound};
 ghost use Rattle.orders.specs.Model.{setupOf, modelOf};
-use crate::due::Due;
 use crate::order_store::OrderStore;
 use packet::fields::entry_fields;
 use packet::fields::stat_fields;
@@ -38,10 +37,10 @@ pub impl<'t> Store for OrderStore<'t> as OrderStoreStore {
     }
 
     fn fits(&self, slot: usize, m: &Message) -> Result<bool, StoreFault> {
-        if slot >= self.slots {
+        if slot >= self.slots() {
             return Err(StoreFault::Slot(slot));
         }
-        Ok(self.rows.fits_in(self.actions, slot + 1, m))
+        Ok(self.fits_at(slot, m))
     }
 
     fn fits_header(&self, h: &HeaderFields) -> bool {
@@ -62,21 +61,20 @@ pub impl<'t> Store for OrderStore<'t> as OrderStoreStore {
     }
 
     fn apply(&mut self, slot: usize, m: &Message) -> Result<(), StoreFault> {
-        if slot >= self.slots {
+        if slot >= self.slots() {
             return Err(StoreFault::Slot(slot));
         }
-        let actions = self.actions;
-        if self.rows.apply_in(actions, slot + 1, m) {
+        if self.apply_at(slot, m) {
             return Ok(());
         }
         Err(StoreFault::Unfit)
     }
 
     fn freshen(&mut self, slot: usize) -> Result<(), StoreFault> {
-        if slot >= self.slots {
+        if slot >= self.slots() {
             return Err(StoreFault::Slot(slot));
         }
-        self.rows.clear_book(slot + 1);
+        self.freshen_at(slot);
         Ok(())
     }
 
@@ -84,11 +82,7 @@ pub impl<'t> Store for OrderStore<'t> as OrderStoreStore {
         if !self.fits_header(h) {
             return Err(StoreFault::Unfit);
         }
-        self.rows.clear_book(0);
-        self.owed = Due {
-            bids: h.bids as usize,
-            offers: h.offers as usize,
-        };
+        self.begin(h);
         Ok(())
     }
 
@@ -110,13 +104,13 @@ pub impl<'t> Store for OrderStore<'t> as OrderStoreStore {
     }
 
     fn adopt(&mut self, slot: usize) -> Result<(), StoreFault> {
-        if slot >= self.slots {
+        if slot >= self.slots() {
             return Err(StoreFault::Slot(slot));
         }
         if !self.whole() {
             return Err(StoreFault::Owed);
         }
-        self.rows.copy_book(0, slot + 1);
+        self.adopt_at(slot);
         Ok(())
     }
 }

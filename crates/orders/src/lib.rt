@@ -1,3 +1,4 @@
+pub mod at_slot;
 pub mod book_store;
 pub mod books;
 pub mod calls;

@@ -5,22 +5,16 @@ use mathlib.Core.Bool.{Bool, true, false, cond}
 use mathlib.Core.List.{List, map}
 use Prim.Native.Nat.{ℕ, _+_, _-_, _≤_, _<_}
 use native.Mathlib.Omega.{arith}
-use lib.Dec.{ltb, eqb}
 use lib.ListN.{length, getD, set, take}
-use Rattle.std.specs.declared.result.Result.{Result}
-use Rattle.std.specs.declared.result.Result.the-variants.{Ok, Err}
 use Rattle.std.proofs.shelf.Counted.{length-map-counting, getD-map-counting}
 use Rattle.std.proofs.shelf.Lists.{same-lists, length-set, getD-set-same, getD-set-other, set-getD}
-use Rattle.std.proofs.shelf.Tests.{cases-eq, lt-ltb, le-ltb, cond-true, cond-false}
-use Rattle.packet.specs.Meaning.{Body}
-use Rattle.store.specs.declared.fault.StoreFault.{StoreFault}
-use Rattle.store.specs.declared.fault.StoreFault.the-variants.{Unfit}
+use Rattle.std.proofs.shelf.Tests.{cases-eq}
 use Rattle.store.specs.Kind.{Model}
-use Rattle.store.specs.Calls.{hasSlot, withSlot, withStaged, applyAnswer, applied}
+use Rattle.store.specs.Calls.{valueAt, withSlot, withStaged}
 use Rattle.panel.specs.declared.cells.Cells.{Cells}
 use Rattle.panel.specs.declared.panel_store.PanelStore.{PanelStore}
 use Rattle.panel.specs.Numbers.{Panel, noNumbers}
-use Rattle.panel.specs.Kind.{panel, fitsPanel, afterPanel}
+use Rattle.panel.specs.Kind.{panel}
 use Rattle.panel.specs.Cells.{PutsPanel, templatesOf, panelAt}
 use Rattle.panel.specs.Model.{panels, setupOf, modelOf}
 
@@ -36,11 +30,8 @@ same-model : (a b : List Panel) (x y : Panel) (w : ℕ) → a ≡ b → x ≡ y 
 same-model a b x y w e f = ap (λ z. record { slots = z; staged = x; owed = w }) e ∙ ap (λ z. record { slots = b; staged = z; owed = w }) f
 
 module _ (s : PanelStore) where
-  pub no-slot : {X : Type 0} (i : ℕ) (x y : X) → 64 ≤ i → y ≡ cond (hasSlot (panel (setupOf s)) (modelOf s) i) x y
-  no-slot i x y h = sym (cond-false _ x y (le-ltb _ _ (omega (arith, panels-length (s .cells)))))
-
-  pub a-slot : {X : Type 0} (i : ℕ) (x y : X) → i < 64 → x ≡ cond (hasSlot (panel (setupOf s)) (modelOf s) i) x y
-  a-slot i x y h = sym (cond-true _ x y (lt-ltb _ _ (omega (arith, panels-length (s .cells)))))
+  pub in-slots : (i : ℕ) → i < length (modelOf s .slots) → i < 64
+  in-slots i h = omega (arith, panels-length (s .cells))
 
   module _ (t : Cells) where
     pub slot-put : (i : ℕ) (v : Panel) → i < 64 → PutsPanel (s .cells) t (i + 1) v → _≡_ {A = Model Panel ℕ} (record { slots = panels t; staged = panelAt t 0; owed = s .owed }) (withSlot (panel (setupOf s)) (modelOf s) i v)
@@ -65,18 +56,11 @@ module _ (s : PanelStore) where
     pub same-setup : (k : ℕ) (v : Panel) → PutsPanel (s .cells) t k v → templatesOf t ≡ setupOf s
     same-setup k v p = ap (λ n. take n (t .templates)) (p .count) ∙ ap (take (s .cells .count)) (p .templates)
 
-    pub applied-yes : (i : ℕ) (b : Body) → i < 64 → true ≡ fitsPanel b → PutsPanel (s .cells) t (i + 1) (afterPanel (setupOf s) (panelAt (s .cells) (i + 1)) b)
-        → (Ok tt ≡ applyAnswer (panel (setupOf s)) (modelOf s) i b) × (_≡_ {A = Model Panel ℕ} (record { slots = panels t; staged = panelAt t 0; owed = s .owed }) (applied (panel (setupOf s)) (modelOf s) i b))
-    applied-yes i b h f p = (
-      sym (cond-true _ _ _ (sym f)) ∙ a-slot i _ _ h,
-      slot-put i _ h p ∙ (ap (λ v. withSlot (panel (setupOf s)) (modelOf s) i (afterPanel (setupOf s) v b)) (sym (panel-value (s .cells) i (noNumbers (setupOf s)) h)) ∙ (sym (cond-true _ _ _ (sym f)) ∙ a-slot i _ _ h)),
-    )
-
-    pub applied-no : (i : ℕ) (b : Body) → i < 64 → false ≡ fitsPanel b → PutsPanel (s .cells) t (i + 1) (panelAt (s .cells) (i + 1))
-        → (Err Unfit ≡ applyAnswer (panel (setupOf s)) (modelOf s) i b) × (_≡_ {A = Model Panel ℕ} (record { slots = panels t; staged = panelAt t 0; owed = s .owed }) (applied (panel (setupOf s)) (modelOf s) i b))
-    applied-no i b h f p = (
-      sym (cond-false _ _ _ (sym f)) ∙ a-slot i _ _ h,
-      slot-put i _ h p ∙ (ap (λ v. withSlot (panel (setupOf s)) (modelOf s) i v) (sym (panel-value (s .cells) i (noNumbers (setupOf s)) h))
-          ∙ (ap (λ l. record { slots = l; staged = panelAt (s .cells) 0; owed = s .owed }) (set-getD (panels (s .cells)) i (noNumbers (setupOf s)))
-          ∙ (sym (cond-false _ _ _ (sym f)) ∙ a-slot i _ _ h))),
-    )
+    -- what a message that may not fit leaves
+    pub put-or-not : (i : ℕ) (b : Bool) (f : Panel → Panel) → i < 64 → PutsPanel (s .cells) t (i + 1) (cond b (f (panelAt (s .cells) (i + 1))) (panelAt (s .cells) (i + 1)))
+        → _≡_ {A = Model Panel ℕ} (record { slots = panels t; staged = panelAt t 0; owed = s .owed }) (cond b (withSlot (panel (setupOf s)) (modelOf s) i (f (valueAt (panel (setupOf s)) (modelOf s) i))) (modelOf s))
+    put-or-not i true f h p =
+        slot-put i _ h p ∙ ap (λ v. withSlot (panel (setupOf s)) (modelOf s) i (f v)) (sym (panel-value (s .cells) i (noNumbers (setupOf s)) h))
+    put-or-not i false f h p =
+        slot-put i _ h p ∙ (ap (λ v. withSlot (panel (setupOf s)) (modelOf s) i v) (sym (panel-value (s .cells) i (noNumbers (setupOf s)) h))
+        ∙ ap (λ l. record { slots = l; staged = panelAt (s .cells) 0; owed = s .owed }) (set-getD (panels (s .cells)) i (noNumbers (setupOf s))))

@@ -39,7 +39,7 @@ pub impl Store for PanelStore as PanelStoreStore {
     }
 
     fn fits(&self, slot: usize, m: &Message) -> Result<bool, StoreFault> {
-        if slot >= 64 {
+        if slot >= self.slots() {
             return Err(StoreFault::Slot(slot));
         }
         Ok(fits_message(m))
@@ -63,20 +63,20 @@ pub impl Store for PanelStore as PanelStoreStore {
     }
 
     fn apply(&mut self, slot: usize, m: &Message) -> Result<(), StoreFault> {
-        if slot >= 64 {
+        if slot >= self.slots() {
             return Err(StoreFault::Slot(slot));
         }
-        if self.cells.apply_at(slot + 1, m) {
+        if self.apply_in(slot, m) {
             return Ok(());
         }
         Err(StoreFault::Unfit)
     }
 
     fn freshen(&mut self, slot: usize) -> Result<(), StoreFault> {
-        if slot >= 64 {
+        if slot >= self.slots() {
             return Err(StoreFault::Slot(slot));
         }
-        self.cells.clear_at(slot + 1);
+        self.freshen_at(slot);
         Ok(())
     }
 
@@ -84,8 +84,7 @@ pub impl Store for PanelStore as PanelStoreStore {
         if !self.fits_header(h) {
             return Err(StoreFault::Unfit);
         }
-        self.cells.clear_at(0);
-        self.owed = h.stats as usize;
+        self.begin(h);
         Ok(())
     }
 
@@ -107,13 +106,13 @@ pub impl Store for PanelStore as PanelStoreStore {
     }
 
     fn adopt(&mut self, slot: usize) -> Result<(), StoreFault> {
-        if slot >= 64 {
+        if slot >= self.slots() {
             return Err(StoreFault::Slot(slot));
         }
         if !self.whole() {
             return Err(StoreFault::Owed);
         }
-        self.cells.copy_to(0, slot + 1);
+        self.adopt_at(slot);
         Ok(())
     }
 }

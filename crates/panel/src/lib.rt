@@ -1,3 +1,4 @@
+pub mod at_slot;
 pub mod calls;
 pub mod cells;
 pub mod listed;

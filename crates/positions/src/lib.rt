@@ -1,7 +1,8 @@
 // A list by position at the front of a lent slice: its first n elements, at positions 1 to n.
 ghost use mathlib.Core.Path.{_≡_};
 ghost use mathlib.Core.Bool.{true, false};
-ghost use Prim.Native.Nat.{_+_, _-_};
+ghost use mathlib.Core.List.{_++_, _∷_};
+ghost use Prim.Native.Nat.{_+_, _-_, _<_, _≤_};
 ghost use lib.ListN.{length, take, drop};
 ghost use Rattle.positions.specs.Positions.{fitsInsert, fitsCut, fitsChange, insertedAt, changedAt, cutOut};
 
@@ -26,6 +27,34 @@ pub fn fits_cut(room: usize, n: usize, p: usize, q: usize) -> bool
     1 <= p && p <= q && q <= n && n <= room
 }
 
+// Puts x in front of the element at place k of the n, as one block move; k counts from 0.
+fn put_in<T: Copy>(table: &mut [T], n: usize, k: usize, x: T)
+    requires { ⌜ (k ≤ n) × (n < length (now table)) ⌝ }
+    ensures list { λ _. ⌜ take (n + 1) (now (table .exit)) ≡ take k (take n (now (table .entry))) ++ (x ∷ drop k (take n (now (table .entry)))) ⌝ }
+    ensures rest { λ _. ⌜ drop (n + 1) (now (table .exit)) ≡ drop (n + 1) (now (table .entry)) ⌝ }
+{
+    table.copy_within(k..n, k + 1);
+    table[k] = x;
+}
+
+// Takes away the elements from place k to before place q of the n, as one block move.
+fn take_out<T: Copy>(table: &mut [T], n: usize, k: usize, q: usize)
+    requires { ⌜ (k ≤ q) × (q ≤ n) × (n ≤ length (now table)) ⌝ }
+    ensures list { λ _. ⌜ take (k + (n - q)) (now (table .exit)) ≡ take k (take n (now (table .entry))) ++ drop q (take n (now (table .entry))) ⌝ }
+    ensures rest { λ _. ⌜ drop n (now (table .exit)) ≡ drop n (now (table .entry)) ⌝ }
+{
+    table.copy_within(q..n, k);
+}
+
+// Puts x in the place of the element at place k of the n.
+fn set_at<T: Copy>(table: &mut [T], n: usize, k: usize, x: T)
+    requires { ⌜ (k < n) × (n ≤ length (now table)) ⌝ }
+    ensures list { λ _. ⌜ take n (now (table .exit)) ≡ take k (take n (now (table .entry))) ++ (x ∷ drop (k + 1) (take n (now (table .entry)))) ⌝ }
+    ensures rest { λ _. ⌜ drop n (now (table .exit)) ≡ drop n (now (table .entry)) ⌝ }
+{
+    table[k] = x;
+}
+
 // Puts x at position p of the n elements, where it fits; those from p on move down.
 pub fn insert<T: Copy>(table: &mut [T], n: usize, p: usize, x: T) -> bool
     ensures fits { λ r. ⌜ r ≡ fitsInsert (length (now (table .entry))) n p ⌝ }
@@ -36,8 +65,7 @@ pub fn insert<T: Copy>(table: &mut [T], n: usize, p: usize, x: T) -> bool
     if !fits_insert(table.len(), n, p) {
         return false;
     }
-    table.copy_within(p - 1..n, p);
-    table[p - 1] = x;
+    put_in(table, n, p - 1, x);
     true
 }
 
@@ -51,7 +79,7 @@ pub fn change<T: Copy>(table: &mut [T], n: usize, p: usize, x: T) -> bool
     if !fits_change(table.len(), n, p) {
         return false;
     }
-    table[p - 1] = x;
+    set_at(table, n, p - 1, x);
     true
 }
 
@@ -65,6 +93,6 @@ pub fn cut<T: Copy>(table: &mut [T], n: usize, p: usize, q: usize) -> bool
     if !fits_cut(table.len(), n, p, q) {
         return false;
     }
-    table.copy_within(q..n, p - 1);
+    take_out(table, n, p - 1, q);
     true
 }

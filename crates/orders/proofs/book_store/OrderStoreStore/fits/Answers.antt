@@ -1,13 +1,13 @@
-use mathlib.Core.Path.{ap, _∙_}
-use Rattle.std.specs.declared.result.Result.the-variants.{Ok}
-use Rattle.packet.specs.Views.{meant}
-use Rattle.orders.proofs.Answering.{no-slot, a-slot, fits-slot}
+use mathlib.Core.Path.{_≡_, sym}
+use mathlib.Core.Bool.{false}
+use native.Mathlib.Omega.{arith}
+use lib.Dec.{ltb}
+use lib.ListN.{length}
+use Rattle.std.proofs.shelf.Tests.{le-ltb, cond-false}
+use Rattle.orders.specs.Model.{modelOf}
 use Rattle.orders.proofs.book_store.OrderStoreStore.fits.Needs as need
 
-pub returns-then-slot-self : need.returns-then-slot-self
-returns-then-slot-self c = no-slot (c .args .self .now) (c .args .slot) _ _ (c .if-slot-self .taken)
-
-pub returns : need.returns
-returns c =
-    let s = c .args .self .now in
-    ap Ok (c .fits-in .ensures ∙ fits-slot s (c .args .slot) (meant (c .args .m .now)) (c .if-slot-self .left)) ∙ a-slot s (c .args .slot) _ _ (c .if-slot-self .left)
+pub returns-then-slot-slots : need.returns-then-slot-slots
+returns-then-slot-slots c =
+    let no : ltb (c .args .slot) (length (modelOf (c .args .self .now) .slots)) ≡ false = le-ltb _ _ (omega (arith, c .slots .ensures, c .if-slot-slots .taken)) in
+    sym (cond-false _ _ _ no)
