@@ -1,19 +1,19 @@
 -- A book that settles beside its extent: it has the publisher's value, and goes exactly as far.
-use mathlib.Core.Path.{_≡_, refl, sym, ap, subst, _∙_}
-use mathlib.Core.Bool.{Bool, true, false, cond, _&&_}
-use mathlib.Core.List.{List, [], _∷_}
-use Prim.Native.Nat.{ℕ, zero, suc, _+_, _-_, _≤_, _<_}
+use mathlib.Core.Path.{_≡_, refl, sym, subst}
+use mathlib.Core.Bool.{Bool, true, cond}
+use mathlib.Core.List.{List}
+use Prim.Native.Nat.{ℕ, zero, suc, _+_, _-_, _≤_}
 use native.Mathlib.Omega.{arith}
-use lib.Dec.{eqb, leb, ltb}
+use lib.Dec.{leb, ltb}
 use Rattle.std.proofs.shelf.Tests.{leb-true, leb-false, lt-leb, le-leb}
 use Rattle.packet.specs.declared.values.HeaderFields.{HeaderFields}
-use Rattle.packet.specs.Meaning.{Msg, Part}
+use Rattle.packet.specs.Meaning.{Part}
 use Rattle.store.specs.Kind.{Kind}
 use Rattle.recovery.specs.declared.marks.Mark.{Mark}
 use Rattle.recovery.specs.declared.marks.Mark.the-variants.{Stale, AsOf}
 use Rattle.recovery.specs.Shelf.{Found, absent, spoilt, intact, upon, isThere}
 use Rattle.recovery.specs.Reading.{changes}
-use Rattle.recovery.specs.Books.{Book, book, kindAt, fitAll, afterAll, lost, climb, aged, agedBy, settle, settleBy}
+use Rattle.recovery.specs.Books.{Book, book, kindAt, fitAll, afterAll, lost, climb, agedBy, settle, settleBy}
 use Rattle.recovery.specs.Publisher.{Publisher, valueAt, Honest}
 use Rattle.recovery.specs.Extents.{Extent, nowhere, upto, onward, led}
 use Rattle.recovery.proofs.Basics.{by-test}

@@ -1,13 +1,11 @@
 -- What the steps of reach keep: the invariant of a settled state, and how one state goes on to another.
-use mathlib.Core.Path.{_≡_, refl, sym, ap, subst, _∙_}
+use mathlib.Core.Path.{_≡_, refl, sym, ap, _∙_}
 use mathlib.Core.Logic.{_⊎_, inl, inr}
-use mathlib.Core.List.{List, [], _∷_, _++_}
-use mathlib.Core.Bool.{Bool, true, false, cond, _&&_, _||_}
+use mathlib.Core.Bool.{Bool, true, false, cond, _||_}
 use Prim.Native.Nat.{ℕ, zero, suc, _+_, _-_, _≤_, _<_, max}
 use native.Mathlib.Omega.{arith}
 use lib.Dec.{eqb, leb, ltb}
 use Rattle.std.specs.declared.option.Option.{Option}
-use Rattle.std.specs.declared.option.Option.the-variants.{Some, None}
 use Rattle.std.proofs.shelf.Tests.{eqb-true, leb-true, leb-false, ltb-true, lt-ltb, eq-eqb, and-parts, and-from, or-left, or-right, or-cases, false≢true}
 use Rattle.recovery.specs.Extents.{Extent, nowhere, upto, Place, Parts, Reach, untouched, onward, led, near, moved, behind}
 use Rattle.recovery.specs.State.{Opening, watched}

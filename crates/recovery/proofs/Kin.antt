@@ -17,7 +17,6 @@ use Rattle.recovery.specs.declared.marks.Mark.{Mark}
 use Rattle.recovery.specs.declared.marks.Mark.the-variants.{Stale, AsOf}
 use Rattle.recovery.specs.declared.marks.Followed.{Followed}
 use Rattle.recovery.specs.declared.marks.Followed.the-variants.{Nothing, Upto}
-use Rattle.recovery.specs.declared.marks.Group.{Group}
 use Rattle.recovery.specs.declared.marks.Pending.{Pending}
 use Rattle.recovery.specs.declared.marks.Pending.the-variants.{Closed, Open}
 use Rattle.recovery.specs.Shelf.{Found, absent, spoilt, intact, isThere, kept}
@@ -28,7 +27,7 @@ use Rattle.recovery.specs.Updates.{withPending, withBook}
 use Rattle.recovery.specs.Incremental.{idAt, renewed}
 use Rattle.recovery.specs.Groups.{idle, groupOf, wanted, adopted, decided}
 use Rattle.recovery.specs.Publisher.{Publisher, valueAt, Honest, piecesOf}
-use Rattle.recovery.specs.Extents.{Extent, nowhere, upto, Place, Parts, Reach, near, moved, led, behind, withParts}
+use Rattle.recovery.specs.Extents.{Extent, upto, Place, Parts, Reach, near, moved, led, behind, withParts}
 use Rattle.recovery.specs.Reach.{left, news, caught, judged}
 use Rattle.recovery.proofs.Basics.{cond-two, by-test, ltb-not}
 use Rattle.recovery.proofs.Books.{extentOf, GoodFound, Both, settle-ok}

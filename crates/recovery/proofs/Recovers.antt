@@ -1,9 +1,9 @@
 -- The recovery guarantee.
 use mathlib.Core.Path.{_≡_, refl, sym, ap, ap₂, subst, _∙_}
-use mathlib.Core.Logic.{_⊎_, inl, inr, _↔_}
+use mathlib.Core.Logic.{_⊎_, inl, inr}
 use mathlib.Core.Bool.{Bool, true, false, cond, _&&_, not}
 use mathlib.Core.List.{List, [], _∷_, _++_}
-use Prim.Native.Nat.{ℕ, suc, _<_, _≤_}
+use Prim.Native.Nat.{ℕ, _<_, _≤_}
 use native.Mathlib.Omega.{arith}
 use lib.Dec.{eqb, leb, ltb}
 use lib.ListN.{length}
@@ -11,7 +11,7 @@ use Rattle.std.specs.Results.{isOk}
 use Rattle.std.proofs.shelf.Tests.{eq-eqb, ltb-false, false≢true}
 use Rattle.packet.specs.declared.values.HeaderFields.{HeaderFields}
 use Rattle.packet.specs.Meaning.{Part}
-use Rattle.packet.specs.Rules.{packetHead, messages, andThen}
+use Rattle.packet.specs.Rules.{andThen}
 use Rattle.store.specs.Kind.{Kind, Model}
 use Rattle.store.specs.Law.{ImageLaw}
 use Rattle.recovery.specs.declared.answers.Sign.{Sign}
@@ -20,16 +20,16 @@ use Rattle.recovery.specs.declared.fault.StreamFault.the-variants.{WatchList, 
 use Rattle.recovery.specs.declared.marks.Mark.{Mark}
 use Rattle.recovery.specs.declared.marks.Mark.the-variants.{Stale, AsOf}
 use Rattle.recovery.specs.Shelf.{isThere}
-use Rattle.recovery.specs.Books.{Book, book}
+use Rattle.recovery.specs.Books.{book}
 use Rattle.recovery.specs.State.{Opening, slotOf, watched, distinct, State, opened}
 use Rattle.recovery.specs.Answers.{refuses, lawfulVersion, openingCheck, standing}
 use Rattle.recovery.specs.Log.{Adoption}
 use Rattle.recovery.specs.Calls.{Call, incremental, join, leave, snapshot, question, taken, step, run, after, Shown, shown}
-use Rattle.recovery.specs.Publisher.{Publisher, valueAt, Honest, Brings, Fed, telling}
+use Rattle.recovery.specs.Publisher.{Publisher, valueAt, Honest, Brings, Fed}
 use Rattle.recovery.specs.Extents.{Extent, nowhere, upto, Reach, untouched}
-use Rattle.recovery.specs.Reach.{takesSnapshot, tellAll, placed, reachStep, reachRun, Reached, atHeard, reachOf}
+use Rattle.recovery.specs.Reach.{takesSnapshot, reachStep, reachRun, Reached, atHeard, reachOf}
 use Rattle.recovery.specs.Guarantee.{Logged, IsPacket, Served, TrueBooks, SameReach, AdoptsBy, Adopts, TakenIn, ComesCurrent, Recovery}
-use Rattle.recovery.proofs.Books.{extentOf, GoodBy, Both}
+use Rattle.recovery.proofs.Books.{extentOf, GoodBy}
 use Rattle.recovery.proofs.Course.{Settled, untouched-settled}
 use Rattle.recovery.proofs.Way.{Midway, TakesNow, TakesIn, step-moves, snapshot-mid, comes, run-settled}
 use Rattle.recovery.proofs.Runs.{Kin, packet-taken, snapshot-taken, step-ok, adoptions-same, run-ok, opened-ok}

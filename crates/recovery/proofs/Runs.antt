@@ -8,8 +8,8 @@ use lib.Dec.{eqb, leb, ltb}
 use lib.ListN.{length, drop}
 use Rattle.std.specs.Results.{isOk}
 use Rattle.std.specs.declared.option.Option.{Option}
-use Rattle.std.specs.declared.option.Option.the-variants.{Some, None}
-use Rattle.std.proofs.shelf.Tests.{eqb-true, eqb-false, eq-eqb, lt-ltb, ltb-true, and-parts, false≢true}
+use Rattle.std.specs.declared.option.Option.the-variants.{None}
+use Rattle.std.proofs.shelf.Tests.{eqb-true, lt-ltb, ltb-true, and-parts, false≢true}
 use Rattle.packet.specs.declared.values.HeaderFields.{HeaderFields}
 use Rattle.packet.specs.Meaning.{Msg, Part}
 use Rattle.packet.specs.Rules.{packetCheck, packetHead, messages}
@@ -19,20 +19,20 @@ use Rattle.recovery.specs.declared.marks.Followed.{Followed}
 use Rattle.recovery.specs.declared.marks.Followed.the-variants.{Nothing, Upto}
 use Rattle.recovery.specs.declared.marks.Pending.{Pending}
 use Rattle.recovery.specs.declared.marks.Pending.the-variants.{Closed}
-use Rattle.recovery.specs.Shelf.{Found, absent, spoilt, intact, isThere, reading, kept, laid}
+use Rattle.recovery.specs.Shelf.{Found, absent, isThere, reading, laid}
 use Rattle.recovery.specs.Reading.{Event}
-use Rattle.recovery.specs.State.{Opening, slotOf, watched, Rest, State, opened}
+use Rattle.recovery.specs.State.{Opening, State, opened}
 use Rattle.recovery.specs.Answers.{isNext}
 use Rattle.recovery.specs.Incremental.{received}
-use Rattle.recovery.specs.Groups.{eventSteps, messageSteps}
+use Rattle.recovery.specs.Groups.{messageSteps}
 use Rattle.recovery.specs.Steps.{noted, adoptions}
 use Rattle.recovery.specs.Calls.{Call, incremental, join, leave, snapshot, question, taken, step, run}
 use Rattle.recovery.specs.Publisher.{Publisher, valueAt, Honest, Imaged, Nth, telling, looping, Brings, Fed}
-use Rattle.recovery.specs.Extents.{Extent, nowhere, upto, Parts, Reach, untouched, near, moved, due}
+use Rattle.recovery.specs.Extents.{Parts, Reach, untouched, near, moved}
 use Rattle.recovery.specs.Reach.{sound, takesPacket, takesSnapshot, tellAll, placed, reachStep, reachRun}
 use Rattle.recovery.proofs.Basics.{cond-two, by-test}
-use Rattle.recovery.proofs.Books.{GoodFound, Both}
-use Rattle.recovery.proofs.Kin.{placeOf, kept-agrees, Base, Rel, GoodGroup, renew-ok}
+use Rattle.recovery.proofs.Books.{GoodFound}
+use Rattle.recovery.proofs.Kin.{placeOf, kept-agrees, Rel, GoodGroup, renew-ok}
 use Rattle.recovery.proofs.Walks.{steps-row, logs-row}
 use Rattle.recovery.proofs.Tells.{events-rel, events-log, imaged-after}
 use Rattle.recovery.proofs.Verdicts.{packet-verdict, snapshot-verdict, join-verdict, leave-verdict, due-next}

@@ -2,7 +2,7 @@
 use mathlib.Core.Path.{_≡_, refl, sym, ap, ap₂, subst, _∙_}
 use mathlib.Core.Bool.{Bool, true, false, cond, _&&_}
 use mathlib.Core.List.{List, [], _∷_, _++_}
-use Prim.Native.Nat.{ℕ, suc}
+use Prim.Native.Nat.{ℕ}
 use lib.Dec.{eqb}
 use Rattle.std.specs.declared.option.Option.{Option}
 use Rattle.std.specs.declared.option.Option.the-variants.{Some, None}
@@ -21,8 +21,7 @@ use Rattle.recovery.specs.Groups.{groupOf, wanted, decided, begun, grown, even
 use Rattle.recovery.specs.Log.{Adoption, decidedLog, eventLog, eventLogs}
 use Rattle.recovery.specs.Publisher.{Publisher, valueAt, Honest, Imaged, piecesOf}
 use Rattle.recovery.specs.Extents.{Parts, Reach, ofParts, withParts}
-use Rattle.recovery.specs.Reach.{left, news, judged, tell, tellAll}
-use Rattle.recovery.proofs.Basics.{cond-two, by-test}
+use Rattle.recovery.specs.Reach.{judged, tell, tellAll}
 use Rattle.recovery.proofs.Kin.{Base, Rel, GoodOpen, GoodGroup, base-group, decide-ok, wanted-news}
 use Rattle.recovery.proofs.Way.{judgedLog, tellLog, tellLogs}
 

@@ -2,13 +2,13 @@
 use mathlib.Core.Path.{_≡_, refl, sym, ap, ap₂, _∙_}
 use mathlib.Core.Bool.{Bool, true, false, cond, _&&_, not}
 use mathlib.Core.List.{List}
-use Prim.Native.Nat.{ℕ, _+_, _<_, _≤_}
+use Prim.Native.Nat.{ℕ, _+_}
 use native.Mathlib.Omega.{arith}
 use lib.Dec.{eqb, leb, ltb}
 use Rattle.std.specs.Results.{isOk}
 use Rattle.std.specs.declared.result.Result.{Result}
 use Rattle.std.specs.declared.result.Result.the-variants.{Ok, Err}
-use Rattle.std.proofs.shelf.Tests.{ltb-true, ltb-false, leb-true, leb-false, eqb-true, eqb-false, lt-ltb, le-ltb, lt-leb, le-leb, eq-eqb, ne-eqb}
+use Rattle.std.proofs.shelf.Tests.{ltb-true, ltb-false, leb-true, leb-false, eqb-true, eqb-false, lt-ltb, le-ltb, lt-leb, le-leb}
 use Rattle.packet.specs.declared.fault.FrameFault.{FrameFault}
 use Rattle.packet.specs.Rules.{andThen, packetCheck, packetHead}
 use Rattle.recovery.specs.declared.answers.Incremental.the-variants.{Repeat, Taken}
@@ -20,7 +20,7 @@ use Rattle.recovery.specs.State.{Opening, Plain}
 use Rattle.recovery.specs.Answers.{refuses, framed, lawfulVersion, incrementalAnswer, snapshotCheck, again, isNext}
 use Rattle.recovery.specs.Updates.{whenTaken, whenOk}
 use Rattle.recovery.specs.Extents.{Reach, seen, due}
-use Rattle.recovery.specs.Reach.{sound, takesPacket, takesSnapshot}
+use Rattle.recovery.specs.Reach.{takesPacket, takesSnapshot}
 use Rattle.recovery.proofs.Basics.{by-test, ltb-not}
 use Rattle.recovery.proofs.Kin.{placeOf}
 

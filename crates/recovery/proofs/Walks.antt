@@ -1,12 +1,12 @@
 -- The messages of a snapshot packet as one row of events.
-use mathlib.Core.Path.{_≡_, refl, sym, ap, ap₂, _∙_}
+use mathlib.Core.Path.{_≡_, refl, sym, ap, _∙_}
 use mathlib.Core.List.{List, [], _∷_, _++_}
 use Rattle.packet.specs.Meaning.{Msg}
 use Rattle.store.specs.Kind.{Kind}
 use Rattle.recovery.specs.Reading.{Event, told}
 use Rattle.recovery.specs.State.{Opening, State}
 use Rattle.recovery.specs.Groups.{eventStep, eventSteps, messageSteps}
-use Rattle.recovery.specs.Log.{Adoption, eventLog, eventLogs, messageLogs}
+use Rattle.recovery.specs.Log.{eventLog, eventLogs, messageLogs}
 use Rattle.recovery.specs.Publisher.{telling}
 
 append-assoc : {A : Type 0} (xs ys zs : List A) → (xs ++ ys) ++ zs ≡ xs ++ (ys ++ zs)

@@ -2,8 +2,8 @@
 use mathlib.Core.Path.{_≡_, refl, sym, ap, subst, _∙_}
 use mathlib.Core.Logic.{_⊎_, inl, inr}
 use mathlib.Core.List.{List, [], _∷_, _++_}
-use mathlib.Core.Bool.{Bool, true, false, cond, _&&_}
-use Prim.Native.Nat.{ℕ, suc, _+_, _≤_, _<_, max}
+use mathlib.Core.Bool.{true, false, cond, _&&_}
+use Prim.Native.Nat.{ℕ, suc, _+_, _≤_, _<_}
 use native.Mathlib.Omega.{arith}
 use lib.Dec.{eqb, ltb}
 use Rattle.std.specs.declared.option.Option.{Option}
@@ -16,7 +16,7 @@ use Rattle.recovery.specs.State.{Opening, watched}
 use Rattle.recovery.specs.Log.{Adoption}
 use Rattle.recovery.specs.Calls.{Call, incremental, join, leave, snapshot, question}
 use Rattle.recovery.specs.Publisher.{telling}
-use Rattle.recovery.specs.Extents.{Extent, nowhere, upto, Parts, Reach, due, behind, ofParts, withParts, tuned, moved}
+use Rattle.recovery.specs.Extents.{upto, Parts, Reach, due, behind, ofParts, withParts}
 use Rattle.recovery.specs.Reach.{left, news, caught, judged, tell, tellAll, placed, takesPacket, takesSnapshot, sound, reachStep, reachRun}
 use Rattle.recovery.specs.Guarantee.{Logged}
 use Rattle.recovery.proofs.Basics.{cond-two, by-test}

@@ -1,7 +1,7 @@
 -- The example and the fixed points, computed.
-use mathlib.Core.Path.{_≡_, refl, sym, ap, subst, _∙_}
+use mathlib.Core.Path.{_≡_, refl, sym, subst}
 use mathlib.Core.Bool.{Bool, true, false, cond, _&&_}
-use mathlib.Core.List.{List, [], _∷_}
+use mathlib.Core.List.{[], _∷_}
 use Prim.Native.Nat.{ℕ, suc, _<_}
 use native.Mathlib.Omega.{arith}
 use lib.Dec.{eqb, lit≤}
@@ -12,14 +12,14 @@ use Rattle.layout.specs.declared.kinds.Layout.the-variants.{Stat, Header}
 use Rattle.layout.specs.declared.sheet.Sheet.{Sheet}
 use Rattle.packet.specs.declared.values.HeaderFields.{HeaderFields}
 use Rattle.packet.specs.declared.values.StatFields.{StatFields}
-use Rattle.packet.specs.Meaning.{Msg, Body, put, delete, mass, empty, stat, aside, broken, Part, number}
+use Rattle.packet.specs.Meaning.{Msg, stat, number}
 use Rattle.packet.specs.Rules.{messages, messagesFrom, walkCheck}
-use Rattle.store.specs.Law.{ImageLaw, Fills}
+use Rattle.store.specs.Law.{ImageLaw}
 use Rattle.recovery.specs.declared.answers.Sign.the-variants as signs
 use Rattle.recovery.specs.Reading.{opens, adds, changes}
 use Rattle.recovery.specs.Books.{fitAll, afterAll, climb}
 use Rattle.recovery.specs.Groups.{eventSteps, messageSteps}
-use Rattle.recovery.specs.Publisher.{Honest, Imaged, valueAt, telling, looping, piecesOf}
+use Rattle.recovery.specs.Publisher.{Imaged, valueAt, telling, looping, piecesOf}
 use Rattle.recovery.specs.Calls.{incremental}
 use Rattle.recovery.specs.Extents.{upto, onward}
 use Rattle.recovery.specs.Reach.{reachOf, tellAll}
@@ -27,7 +27,7 @@ use Rattle.recovery.specs.Guarantee.{Served}
 use Rattle.recovery.specs.Latest.{Latest, latest, LatestImage}
 use Rattle.recovery.specs.Example.{statBytes, headerBytes, publisher, opening, oneSlot, byLoop, swapped, said, shot}
 use Rattle.recovery.specs.Pattern.{byteAt, twoTemplates}
-use Rattle.recovery.specs.Points.{Worked, Points, ownHead, showing, seenAs}
+use Rattle.recovery.specs.Points.{Worked, Points, showing, seenAs}
 
 latest-law : ImageLaw latest LatestImage
 latest-law h ps v im = rw (im .pieces, im .count, im .value) (refl, ((λ e. let z : _≡_ {A = ℕ} 0 1 = cc in absurd (omega arith)), refl, (refl, refl)))

@@ -1,5 +1,5 @@
 -- Which calls are refused, and why; what an accepted one answers, as far as no value matters.
-use mathlib.Core.Bool.{Bool, true, false, cond, _&&_, _||_, not}
+use mathlib.Core.Bool.{Bool, false, cond, _&&_, not}
 use mathlib.Core.List.{List}
 use Prim.Native.Nat.{ℕ, _+_}
 use lib.Dec.{eqb, leb, ltb}
@@ -11,7 +11,6 @@ use Rattle.packet.specs.declared.head.PacketHead.{PacketHead}
 use Rattle.packet.specs.Rules.{andThen, packetCheck, packetHead}
 use Rattle.recovery.specs.declared.answers.Incremental.{Incremental}
 use Rattle.recovery.specs.declared.answers.Incremental.the-variants as incrementals
-use Rattle.recovery.specs.declared.answers.Sign.{Sign}
 use Rattle.recovery.specs.declared.answers.Sign.the-variants as signs
 use Rattle.recovery.specs.declared.answers.Standing.{Standing}
 use Rattle.recovery.specs.declared.fault.StreamFault.{StreamFault}

@@ -12,7 +12,7 @@ use Rattle.packet.specs.Rules.{packetHead}
 use Rattle.store.specs.Kind.{Kind, Model}
 use Rattle.recovery.specs.declared.answers.Sign.the-variants.{Stale, Current}
 use Rattle.recovery.specs.Shelf.{isThere}
-use Rattle.recovery.specs.State.{Opening, watched, Plain, State, opened}
+use Rattle.recovery.specs.State.{Opening, watched, State, opened}
 use Rattle.recovery.specs.Answers.{openingCheck}
 use Rattle.recovery.specs.Log.{Adoption}
 use Rattle.recovery.specs.Steps.{adoptions}

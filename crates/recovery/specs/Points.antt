@@ -17,14 +17,14 @@ use Rattle.recovery.specs.declared.marks.Followed.the-variants.{Nothing}
 use Rattle.recovery.specs.declared.marks.Pending.the-variants.{Closed}
 use Rattle.recovery.specs.Shelf.{absent}
 use Rattle.recovery.specs.Reading.{opens}
-use Rattle.recovery.specs.Books.{Book, book, lost, settle}
+use Rattle.recovery.specs.Books.{book, lost, settle}
 use Rattle.recovery.specs.State.{Opening, State}
 use Rattle.recovery.specs.Answers.{incrementalRules, standing}
 use Rattle.recovery.specs.Groups.{eventStep}
 use Rattle.recovery.specs.Calls.{Call, incremental, after, shown, Shown}
 use Rattle.recovery.specs.Publisher.{Honest}
 use Rattle.recovery.specs.Extents.{upto}
-use Rattle.recovery.specs.Reach.{Reached, reachOf}
+use Rattle.recovery.specs.Reach.{reachOf}
 use Rattle.recovery.specs.Guarantee.{Served}
 use Rattle.recovery.specs.Latest.{Latest, latest, LatestImage}
 use Rattle.recovery.specs.Example.{publisher, opening, oneSlot, byLoop, swapped, said}

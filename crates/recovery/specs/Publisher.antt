@@ -1,8 +1,8 @@
 -- The publisher of the channel, and what is taken of it as given.
 use mathlib.Core.Path.{_≡_}
-use mathlib.Core.Bool.{Bool, true, false, cond}
+use mathlib.Core.Bool.{true, cond}
 use mathlib.Core.List.{List, [], _∷_, _++_}
-use Prim.Native.Nat.{ℕ, zero, suc, _+_, _≤_, _<_}
+use Prim.Native.Nat.{ℕ, zero, suc, _≤_, _<_}
 use lib.Dec.{eqb}
 use Rattle.packet.specs.declared.values.HeaderFields.{HeaderFields}
 use Rattle.packet.specs.Meaning.{Msg, Part}

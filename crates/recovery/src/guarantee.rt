@@ -14,13 +14,25 @@ const PARTS: u8 = 3;
 // what the example shows: a run over a snapshot loop, and one over two swapped packets
 const RUNS: u8 = 2;
 
+fn parts() -> u8
+    ensures { λ r. ⌜ r ≡ 3 ⌝ }
+{
+    PARTS
+}
+
+fn runs() -> u8
+    ensures { λ r. ⌜ r ≡ 2 ⌝ }
+{
+    RUNS
+}
+
 // The recovery guarantee holds of every store: it follows from the laws that a store keeps. The number of its parts.
 pub fn recovery_stands<S: Store>() -> u8
     ensures parts { λ r. ⌜ r ≡ 3 ⌝ }
     ensures guarantee { λ _. ⌜ ((o : Setup) → Recovery (kind o) (Image o)) ⌝ }
     ensures present { λ _. ⌜ ((o : Setup) (opening : Opening) (s : State Value Owed) (i : ℕ) → Guaranteed (kind o) opening s i (Image o)) ⌝ }
 {
-    PARTS
+    parts()
 }
 
 // The guarantee's premises can be met, all at once, and the machine comes to known points. Of the sheet only where it
@@ -30,5 +42,5 @@ pub fn example_stands(sheet: &Sheet) -> u8
     ensures worked { λ _. ⌜ Worked (twoTemplates (now (sheet .entry))) ⌝ }
     ensures points { λ _. ⌜ Points (twoTemplates (now (sheet .entry))) ⌝ }
 {
-    RUNS
+    runs()
 }
