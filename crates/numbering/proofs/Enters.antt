@@ -1,0 +1,86 @@
+-- What entering a number does to spans: a change behind the spans that stand clear of the number.
+use mathlib.Core.Path.{_≡_, refl, sym, ap, subst, _∙_}
+use mathlib.Core.Bool.{Bool, true, false, _&&_, _||_}
+use mathlib.Core.List.{List, [], _∷_, _++_}
+use Prim.Native.Nat.{ℕ, _+_, _≤_, _<_}
+use native.Mathlib.Omega.{arith}
+use lib.Dec.{leb, eqb}
+use lib.ListN.{take, drop}
+use Rattle.std.proofs.shelf.Ways.{tells}
+use Rattle.std.proofs.shelf.Lists.{take-append-drop}
+use Rattle.numbering.specs.declared.span.Span.{Span}
+use Rattle.numbering.specs.Spans.{inside, held, Rises, Clear, Near, Entered}
+
+-- the later spans take `n`, wherever from `b` up to `n` they rise from
+abbrev pub Takes : ℕ → List Span → List Span → Type 0
+Takes n before after =
+    (b : ℕ) → b ≤ n → Rises b before → Rises b after × ((m : ℕ) → held after m ≡ (eqb m n || held before m))
+
+or-turn : (x y z w : Bool) → z ≡ (y || w) → (x || z) ≡ (y || (x || w))
+or-turn true true z w e = refl
+or-turn true false z w e = refl
+or-turn false true z w e = e
+or-turn false false z w e = e
+
+pub behind-clear :
+    (front before after : List Span) (b n : ℕ) → b ≤ n → Clear n front → Rises b (front ++ before) → Takes n before after
+    → Rises b (front ++ after) × ((m : ℕ) → held (front ++ after) m ≡ (eqb m n || held (front ++ before) m))
+behind-clear [] before after b n le clear rises takes = takes b le rises
+behind-clear (s ∷ ss) before after b n le clear rises takes =
+    let rest = behind-clear ss before after (s .high + 2) n (clear .0) (clear .1) (rises .2) takes in
+    ((rises .0, rises .1, rest .0), λ m. or-turn (inside s m) (eqb m n) (held (ss ++ after) m) (held (ss ++ before) m) (rest .1 m))
+
+-- the same of a list that is cut at `p`
+pub entered-at :
+    (xs ys after : List Span) (p n : ℕ) → Rises 0 xs → Clear n (take p xs) → Takes n (drop p xs) after → ys ≡ take p xs ++ after
+    → Entered n xs ys
+entered-at xs ys after p n rises clear takes e =
+    let cut = take-append-drop p xs in
+    let R : List Span → Type 0 = λ l. Rises 0 l in
+    let E : List Span → Type 0 = λ l. Entered n l ys in
+    let F : List Span → Type 0 = λ l. Entered n (take p xs ++ drop p xs) l in
+    subst E cut (subst F (sym e) (behind-clear (take p xs) (drop p xs) after 0 n (omega arith) clear (subst R (sym cut) rises) takes))
+
+-- a span of its own behind all
+pub takes-last : (n : ℕ) (s : Span) → s .low ≡ n → s .high ≡ n → Takes n [] (s ∷ [])
+takes-last n s l h b le rises = ((omega arith, omega arith, tt), λ m. grind (arith, tells))
+
+-- a span of its own before one that stands higher
+pub takes-before : (n : ℕ) (s t : Span) (ss : List Span) → s .low ≡ n → s .high ≡ n → n + 1 < t .low → Takes n (t ∷ ss) (s ∷ t ∷ ss)
+takes-before n s t ss l h lt b le rises = ((omega arith, omega arith, (omega arith, rises .1, rises .2)), λ m. grind (arith, tells))
+
+-- the next span reaches one lower
+pub takes-lower :
+    (n : ℕ) (s t : Span) (ss : List Span) → s .low ≡ n → s .high ≡ t .high → n + 1 ≡ t .low → Takes n (t ∷ ss) (s ∷ ss)
+takes-lower n s t ss l h lt b le rises =
+    let R : ℕ → Type 0 = λ k. Rises (k + 2) ss in
+    ((omega arith, omega (arith, rises .1), subst R (sym h) (rises .2)), λ m. let r1 = rises .1 in grind (arith, tells))
+
+-- what starts above a number starts above a lower one
+pub rises-from : (a b : ℕ) (ss : List Span) → a ≤ b → Rises b ss → Rises a ss
+rises-from a b [] le r = tt
+rises-from a b (s ∷ ss) le r = (omega (arith, r .0), r .1, r .2)
+
+abbrev pub Above : ℕ → List Span → Type 0
+Above n [] = Unit {0}
+Above n (s ∷ ss) = n + 2 ≤ s .low
+
+above-rises : (n a b : ℕ) (ss : List Span) → n ≡ a → Above n ss → Rises b ss → Rises (a + 2) ss
+above-rises n a b [] e up r = tt
+above-rises n a b (s ∷ ss) e up r = (omega arith, r .1, r .2)
+
+-- the span reaches one higher, and the next, if there is one, still stands apart
+pub takes-higher :
+    (n : ℕ) (s t : Span) (ss : List Span) → s .low ≡ t .low → s .high ≡ n → t .high + 1 ≡ n → Above n ss → Takes n (t ∷ ss) (s ∷ ss)
+takes-higher n s t ss l h e up b le rises =
+    ((omega (arith, rises .0), omega (arith, rises .1), above-rises n (s .high) (t .high + 2) ss (sym h) up (rises .2)), λ m. let r1 = rises .1 in grind (arith, tells))
+
+-- the span reaches up to the next, and both become one
+pub takes-between :
+    (n : ℕ) (s t u : Span) (ss : List Span) → s .low ≡ t .low → s .high ≡ u .high → t .high + 1 ≡ n → n + 1 ≡ u .low
+    → Takes n (t ∷ u ∷ ss) (s ∷ ss)
+takes-between n s t u ss l h e f b le rises =
+    let R : ℕ → Type 0 = λ k. Rises (k + 2) ss in
+    let r1 = rises .1 in
+    let r2 = rises .2 .1 in
+    ((omega (arith, rises .0), omega arith, subst R (sym h) (rises .2 .2)), λ m. grind (arith, tells))

@@ -1,0 +1,3 @@
+mod Enters
+mod Counts
+mod Places

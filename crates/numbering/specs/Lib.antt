@@ -1,0 +1,4 @@
+pub mod Spans
+pub mod Counting
+pub mod Answer
+pub mod Members
