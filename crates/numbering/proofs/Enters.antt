@@ -2,12 +2,13 @@
 use mathlib.Core.Path.{_≡_, refl, sym, ap, subst, _∙_}
 use mathlib.Core.Bool.{Bool, true, false, _&&_, _||_}
 use mathlib.Core.List.{List, [], _∷_, _++_}
-use Prim.Native.Nat.{ℕ, _+_, _≤_, _<_}
+use Prim.Native.Nat.{ℕ, suc, _+_, _≤_, _<_}
 use native.Mathlib.Omega.{arith}
 use lib.Dec.{leb, eqb}
-use lib.ListN.{take, drop}
+use lib.ListN.{length, set, take, drop}
+use Rattle.std.specs.Holes.{removed}
 use Rattle.std.proofs.shelf.Ways.{tells}
-use Rattle.std.proofs.shelf.Lists.{take-append-drop}
+use Rattle.std.proofs.shelf.Lists.{take-append-drop, take-more-set, append-assoc, drop-set-lt}
 use Rattle.numbering.specs.declared.span.Span.{Span}
 use Rattle.numbering.specs.Spans.{inside, held, Rises, Clear, Near, Entered}
 
@@ -84,3 +85,10 @@ takes-between n s t u ss l h e f b le rises =
     let r1 = rises .1 in
     let r2 = rises .2 .1 in
     ((omega (arith, rises .0), omega arith, subst R (sym h) (rises .2 .2)), λ m. grind (arith, tells))
+
+-- one span for two: what a write and a removal leave
+pub two-for-one : (xs : List Span) (p : ℕ) (s : Span) → p + 1 < length xs → removed (set xs p s) (p + 1) ≡ take p xs ++ s ∷ drop (p + 2) xs
+two-for-one xs p s lt =
+    ap (λ l. l ++ drop (suc (p + 1)) (set xs p s)) (take-more-set xs p s (omega arith))
+    ∙ (append-assoc (take p xs) (s ∷ []) (drop (suc (p + 1)) (set xs p s))
+    ∙ ap (λ l. take p xs ++ s ∷ l) (drop-set-lt (suc (p + 1)) xs p s (omega arith) ∙ ap (λ k. drop k xs) (omega arith)))

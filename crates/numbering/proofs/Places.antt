@@ -9,8 +9,8 @@ use native.Mathlib.Numerals.{add-one}
 use lib.Dec.{leb, eqb}
 use lib.ListN.{length, getD, take, drop}
 use Rattle.std.proofs.shelf.Ways.{tells}
-use Rattle.std.proofs.shelf.Tests.{and-parts, and-from, le-leb, leb-true, cases-lt, both-ways}
-use Rattle.std.proofs.shelf.Lists.{take-append-drop}
+use Rattle.std.proofs.shelf.Tests.{and-parts, and-from, le-leb, leb-true, cases-lt, both-ways, or-left, or-right, or-from}
+use Rattle.std.proofs.shelf.Lists.{take-append-drop, drop-more, drop-all}
 use Rattle.numbering.specs.declared.span.Span.{Span}
 use Rattle.numbering.specs.Spans.{inside, held, Rises, rising, Clear, Near}
 
@@ -84,3 +84,81 @@ below-all p n xs back clear e none m in-it =
     ⊎-elim (λ (h : m < n). h)
     (λ (h : n ≤ m). absurd (both-ways (held xs m) (held-behind p n m xs back clear e h ∙ none m h) in-it))
     (cases-lt m n)
+
+-- what stands from a place on, by the element there
+pub here-is : (xs : List Span) (i n : ℕ) (x : Span) → x ≡ getD xs i x → i < n → n ≡ length xs → drop i xs ≡ x ∷ drop (i + 1) xs
+here-is xs i n x e lt len = let h : i < length xs = omega arith in drop-more xs i x h ∙ ap (λ y. y ∷ drop (i + 1) xs) (sym e)
+
+rises-here : (xs rest : List Span) (p : ℕ) (s : Span) → Rises 0 xs → drop p xs ≡ s ∷ rest → (s .low ≤ s .high) × Rises (s .high + 2) rest
+rises-here xs rest p s rises e =
+    let found = rises-drop 0 p xs rises in
+    let R : List Span → Type 0 = λ l. Rises (found .0) l in
+    let r = subst R e (found .1) in
+    (r .1, r .2)
+
+-- the next span starts above the one before
+pub next-above : (xs : List Span) (p : ℕ) (s t : Span) → Rises 0 xs → drop p xs ≡ s ∷ drop (p + 1) xs → drop (p + 1) xs ≡ t ∷ drop (p + 1 + 1) xs → s .high + 2 ≤ t .low
+next-above xs p s t rises e f =
+    let R : List Span → Type 0 = λ l. Rises (s .high + 2) l in
+    subst R f (rises-here xs (drop (p + 1) xs) p s rises e .1) .0
+
+-- below the span at its place: late, since that span's numbers came
+pub late-below :
+    (xs : List Span) (p n : ℕ) (s : Span) → Rises 0 xs → Clear n (take p xs) → drop p xs ≡ s ∷ drop (p + 1) xs → n < s .low
+    → (held xs n ≡ false) × ((m : ℕ) × (n < m) × (held xs m ≡ true))
+late-below xs p n s rises clear e lt =
+    let r = rises-here xs (drop (p + 1) xs) p s rises e in
+    let low = r .0 in
+    let back : List Span = s ∷ drop (p + 1) xs in
+    let out : held back n ≡ false = none-below (s .low) n back (omega arith, r .0, r .1) lt in
+    let in-s : inside s (s .high) ≡ true = grind (arith, tells) in
+    let have : held back (s .high) ≡ true = or-left (inside s (s .high)) (held (drop (p + 1) xs) (s .high)) in-s in
+    (held-behind p n n xs back clear e (omega arith) ∙ out, (s .high, omega arith, held-behind p n (s .high) xs back clear e (omega arith) ∙ have))
+
+-- in the span at its place
+pub repeated-in :
+    (xs : List Span) (p n : ℕ) (s : Span) → Clear n (take p xs) → drop p xs ≡ s ∷ drop (p + 1) xs → s .low ≤ n → n ≤ s .high → held xs n ≡ true
+repeated-in xs p n s clear e low high =
+    let in-s : inside s n ≡ true = grind (arith, tells) in
+    held-behind p n n xs (s ∷ drop (p + 1) xs) clear e (omega arith) ∙ or-left (inside s n) (held (drop (p + 1) xs) n) in-s
+
+-- above the span at its place, which is the last: new
+pub new-above :
+    (xs : List Span) (p n : ℕ) (s : Span) → Clear n (take p xs) → drop p xs ≡ s ∷ drop (p + 1) xs → p + 1 ≡ length xs → s .high < n
+    → (m : ℕ) → held xs m ≡ true → m < n
+new-above xs p n s clear e last high =
+    let none : drop (p + 1) xs ≡ [] = drop-all (p + 1) xs (omega arith) in
+    below-all p n xs (s ∷ []) clear (e ∙ ap (λ l. s ∷ l) none) (λ m le. grind (arith, tells))
+
+-- above the span at its place, and below the next one: late
+pub late-between :
+    (xs : List Span) (p n : ℕ) (s t : Span) → Rises 0 xs → Clear n (take p xs) → drop p xs ≡ s ∷ drop (p + 1) xs
+    → drop (p + 1) xs ≡ t ∷ drop (p + 1 + 1) xs → s .high < n → n ≤ s .high + 1
+    → (held xs n ≡ false) × ((m : ℕ) × (n < m) × (held xs m ≡ true))
+late-between xs p n s t rises clear e f high near =
+    let r = rises-here xs (drop (p + 1) xs) p s rises e in
+    let rest : List Span = drop (p + 1) xs in
+    let out-s : inside s n ≡ false = grind (arith, tells) in
+    let out : held (s ∷ rest) n ≡ false = or-from (inside s n) (held rest n) out-s (none-below (s .high + 2) n rest (r .1) (omega arith)) in
+    let R : List Span → Type 0 = λ l. Rises (s .high + 2) l in
+    let up = subst R f (r .1) in
+    let a = up .0 in
+    let b = up .1 in
+    let in-t : inside t (t .high) ≡ true = grind (arith, tells) in
+    let have-t : held rest (t .high) ≡ true = ap (λ l. held l (t .high)) f ∙ or-left (inside t (t .high)) (held (drop (p + 1 + 1) xs) (t .high)) in-t in
+    let have : held (s ∷ rest) (t .high) ≡ true = or-right (inside s (t .high)) (held rest (t .high)) have-t in
+    (held-behind p n n xs (s ∷ rest) clear e (omega arith) ∙ out, (t .high, omega arith, held-behind p n (t .high) xs (s ∷ rest) clear e (omega arith) ∙ have))
+
+pub near-here : (xs : List Span) (p n : ℕ) (s : Span) → Near n (drop p xs) → drop p xs ≡ s ∷ drop (p + 1) xs → n ≤ s .high + 1
+near-here xs p n s near e = let N : List Span → Type 0 = λ l. Near n l in subst N e near
+
+-- a number that is no member and not below the span at its place stands right above it
+pub touches-above :
+    (xs : List Span) (p n : ℕ) (s : Span) → Clear n (take p xs) → Near n (drop p xs) → drop p xs ≡ s ∷ drop (p + 1) xs
+    → held xs n ≡ false → s .low ≤ n → s .high + 1 ≡ n
+touches-above xs p n s clear near e absent low =
+    let close = near-here xs p n s near e in
+    ⊎-elim
+    (λ (h : s .high < n). omega arith)
+    (λ (h : n ≤ s .high). absurd (both-ways (held xs n) absent (repeated-in xs p n s clear e low h)))
+    (cases-lt (s .high) n)

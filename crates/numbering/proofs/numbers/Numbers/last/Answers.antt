@@ -1,0 +1,10 @@
+use borrow.Author.Needs.{needs}
+use Rattle.numbering.proofs.numbers.Numbers.last.Needs as need
+
+-- src/note.rt:56:5
+pub returns-in-Some : need.returns-in-Some
+returns-in-Some c = ?
+
+-- src/note.rt:56:5
+pub returns-in-None : need.returns-in-None
+returns-in-None c = ?
