@@ -2,17 +2,20 @@
 use mathlib.Core.Path.{_≡_, refl, sym, ap, subst, _∙_}
 use mathlib.Core.Bool.{Bool, true, false, _&&_, _||_}
 use mathlib.Core.List.{List, [], _∷_, _++_}
-use mathlib.Core.Logic.{inl, inr, ⊎-elim}
+use mathlib.Core.Logic.{_⊎_, inl, inr, ⊎-elim}
 use Prim.Native.Nat.{ℕ, zero, suc, _+_, _≤_, _<_}
 use native.Mathlib.Omega.{arith}
 use native.Mathlib.Numerals.{add-one}
 use lib.Dec.{leb, eqb}
 use lib.ListN.{length, getD, take, drop}
 use Rattle.std.proofs.shelf.Ways.{tells}
-use Rattle.std.proofs.shelf.Tests.{and-parts, and-from, le-leb, leb-true, cases-lt, both-ways, or-left, or-right, or-from}
+use Rattle.std.proofs.shelf.Tests.{and-parts, and-from, le-leb, leb-true, cases-lt, both-ways, cases-bool, or-left, or-right, or-from}
 use Rattle.std.proofs.shelf.Lists.{take-append-drop, drop-more, drop-all}
 use Rattle.numbering.specs.declared.span.Span.{Span}
 use Rattle.numbering.specs.Spans.{inside, held, Rises, rising, Clear, Near}
+use Rattle.numbering.specs.declared.seen.Seen.{Seen}
+use Rattle.numbering.specs.declared.seen.Seen.the-variants.{New, Repeated, Late}
+use Rattle.numbering.specs.Answer.{Answer}
 
 pub rises-since : (b : ℕ) (ss : List Span) → rising b ss ≡ true → Rises b ss
 rises-since b [] e = tt
@@ -162,3 +165,11 @@ touches-above xs p n s clear near e absent low =
     (λ (h : s .high < n). omega arith)
     (λ (h : n ≤ s .high). absurd (both-ways (held xs n) absent (repeated-in xs p n s clear e low h)))
     (cases-lt (s .high) n)
+
+-- a number that is new or late did not come before
+pub absent-since : (f : ℕ → Bool) (n : ℕ) (s : Seen) → Answer f n s → (s ≡ New) ⊎ (s ≡ Late) → f n ≡ false
+absent-since f n New answer is =
+    ⊎-elim (λ (h : f n ≡ true). absurd (omega (arith, answer n h))) (λ (h : f n ≡ false). h) (cases-bool (f n))
+absent-since f n Late answer is = answer .0
+absent-since f n Repeated answer is =
+    ⊎-elim (λ (h : Repeated ≡ New). let z : _≡_ {A = ℕ} 0 1 = cc in absurd (omega arith)) (λ (h : Repeated ≡ Late). let z : _≡_ {A = ℕ} 0 1 = cc in absurd (omega arith)) is

@@ -17,7 +17,7 @@ pub(crate) fn place(spans: &[Span], n: u32) -> usize
     let mut high = spans.len();
     let mut middle = high.saturating_sub(1);
     while low < high {
-        if u64::from(spans[middle].high) + 1 < u64::from(n) {
+        if n.saturating_sub(spans[middle].high) > 1 {
             low = middle + 1;
         } else {
             high = middle;

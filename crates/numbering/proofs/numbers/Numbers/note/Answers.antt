@@ -1,22 +1,55 @@
-use borrow.Author.Needs.{needs}
+use mathlib.Core.Path.{_≡_, refl, sym, ap, subst, _∙_}
+use mathlib.Core.Bool.{Bool, true, false}
+use mathlib.Core.List.{List}
+use mathlib.Core.Logic.{⊎-elim}
+use Prim.Native.Nat.{ℕ, _+_, _^_, _≤_, _<_}
+use native.Mathlib.Omega.{arith}
+use lib.ListN.{length, take, drop}
+use Rattle.numbering.specs.declared.span.Span.{Span}
+use Rattle.numbering.specs.declared.seen.Seen.{Seen}
+use Rattle.numbering.specs.declared.seen.Seen.the-variants.{New, Repeated, Late}
+use Rattle.numbering.specs.Spans.{held, Rises, Clear, Near}
+use Rattle.numbering.specs.Answer.{Answer}
+use Rattle.numbering.proofs.Places.{rises-since, rising-since, absent-since}
+use Rattle.numbering.proofs.Counts.{count-most, count-more}
 use Rattle.numbering.proofs.numbers.Numbers.note.Needs as need
 
--- src/note.rt:33:13
 pub place-p-requires : need.place-p-requires
-place-p-requires c κs = ?
+place-p-requires c κs =
+    let R : List Span → Type 0 = λ l. Rises 0 l in
+    subst R (sym (c .as-slice .ensures .value)) (rises-since 0 (c .args .self .now .spans .items) (c .args .self .now .rises))
 
--- src/note.rt:34:13
 pub seen-at-seen-requires : need.seen-at-seen-requires
-seen-at-seen-requires c κs = ?
+seen-at-seen-requires c κs =
+    let same = c .as-slice .ensures .value ∙ sym (c .as-slice-2 .ensures .value) in
+    let R : List Span → Type 0 = λ l. Rises 0 l in
+    let W : List Span → Type 0 = λ l. c .place-p .result ≤ length l in
+    let C : List Span → Type 0 = λ l. Clear (c .args .n) (take (c .place-p .result) l) in
+    let N : List Span → Type 0 = λ l. Near (c .args .n) (drop (c .place-p .result) l) in
+    record {
+      rises = subst R (sym (c .as-slice-2 .ensures .value)) (rises-since 0 (c .args .self .now .spans .items) (c .args .self .now .rises));
+      within = subst W same (c .place-p .ensures .within);
+      before = subst C same (c .place-p .ensures .before);
+      behind = subst N same (c .place-p .ensures .behind)
+    }
 
--- src/note.rt:38:17
 pub enter-requires : need.enter-requires
-enter-requires c κs = ?
+enter-requires c κs =
+    let same = c .as-slice .ensures .value in
+    let C : List Span → Type 0 = λ l. Clear (c .args .n) (take (c .place-p .result) l) in
+    let N : List Span → Type 0 = λ l. Near (c .args .n) (drop (c .place-p .result) l) in
+    let K : List Span → Type 0 = λ l. Answer (held l) (c .args .n) (c .seen-at-seen .result) in
+    let answer = subst K (c .as-slice-2 .ensures .value) (c .seen-at-seen .ensures) in
+    record {
+      rises = rises-since 0 (c .args .self .now .spans .items) (c .args .self .now .rises);
+      within = omega (arith, c .place-p .ensures .within, c .as-slice .ensures .len);
+      before = subst C same (c .place-p .ensures .before);
+      behind = subst N same (c .place-p .ensures .behind);
+      absent = absent-since (held (c .args .self .now .spans .items)) (c .args .n) (c .seen-at-seen .result) answer (c .in-New .is)
+    }
 
--- src/note.rt:39:17
 pub add-self : need.add-self
 add-self c = ?
 
--- src/note.rt:39:17
 pub ghost-self-in-New : need.ghost-self-in-New
 ghost-self-in-New c = ?
