@@ -1,3 +1,4 @@
 mod Enters
 mod Counts
 mod Places
+mod Ends

@@ -31,7 +31,7 @@ rising-since b (s ∷ ss) r =
     (and-from (leb (s .low) (s .high)) (rising (s .high + 2) ss) (le-leb (s .low) (s .high) (r .1)) (rising-since (s .high + 2) ss (r .2)))
 
 -- each span starts no lower than where they rise from
-rises-at : (b i : ℕ) (d : Span) (ss : List Span) → Rises b ss → i < length ss → b ≤ getD ss i d .high
+pub rises-at : (b i : ℕ) (d : Span) (ss : List Span) → Rises b ss → i < length ss → b ≤ getD ss i d .high
 rises-at b i d [] r lt = absurd (omega arith)
 rises-at b zero d (s ∷ ss) r lt = omega (arith, r .0, r .1)
 rises-at b (suc i) d (s ∷ ss) r lt = omega (arith, r .0, r .1, rises-at (s .high + 2) i d ss (r .2) (omega arith))

@@ -49,7 +49,14 @@ enter-requires c κs =
     }
 
 pub add-self : need.add-self
-add-self c = ?
+add-self c = omega (arith, count-most (held (c .args .self .now .spans .items)) (2 ^ 32), c .args .self .now .total)
 
 pub ghost-self-in-New : need.ghost-self-in-New
-ghost-self-in-New c = ?
+ghost-self-in-New c =
+    let before = held (c .args .self .now .spans .items) in
+    let K : List Span → Type 0 = λ l. Answer (held l) (c .args .n) (c .seen-at-seen .result) in
+    let answer = subst K (c .as-slice-2 .ensures .value) (c .seen-at-seen .ensures) in
+    let out = absent-since before (c .args .n) (c .seen-at-seen .result) answer (c .in-New .is) in
+    let entered = c .in-Continue-enter .ensures tt in
+    let more = count-more before (held (c .enter .last .spans .items)) (c .args .n) (2 ^ 32) (omega (arith, c .fits .n)) out (entered .1) in
+    (rising-since 0 (c .enter .last .spans .items) (entered .0), (omega (arith, more, c .args .self .now .total), tt))
