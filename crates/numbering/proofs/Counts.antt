@@ -40,18 +40,18 @@ count-more f g x zero lt out same = absurd (omega arith)
 count-more f g x (suc k) lt out same =
     ⊎-elim
     (λ (e : k ≡ x).
-      let below = count-same g f k (λ m l. same m ∙ grind (arith, tells)) in
-      let here : g k ≡ true = same k ∙ grind (arith, tells) in
-      let there : f k ≡ false = ap f e ∙ out in
-      let a : cond {A = ℕ} (g k) 1 0 ≡ 1 = ap (λ (b : Bool). cond b 1 0) here in
-      let c : cond {A = ℕ} (f k) 1 0 ≡ 0 = ap (λ (b : Bool). cond b 1 0) there in
-      omega arith)
+    let below = count-same g f k (λ m l. same m ∙ grind (arith, tells)) in
+    let here : g k ≡ true = same k ∙ grind (arith, tells) in
+    let there : f k ≡ false = ap f e ∙ out in
+    let a : cond {A = ℕ} (g k) 1 0 ≡ 1 = ap (λ (b : Bool). cond b 1 0) here in
+    let c : cond {A = ℕ} (f k) 1 0 ≡ 0 = ap (λ (b : Bool). cond b 1 0) there in
+    omega arith)
     (λ (ne : k ≡ x → ⊥).
-      let l : x < k = grind arith in
-      let below = count-more f g x k l out same in
-      let here : g k ≡ f k = same k ∙ grind (arith, tells) in
-      let a : cond {A = ℕ} (g k) 1 0 ≡ cond (f k) 1 0 = ap (λ (b : Bool). cond b 1 0) here in
-      omega arith)
+    let l : x < k = grind arith in
+    let below = count-more f g x k l out same in
+    let here : g k ≡ f k = same k ∙ grind (arith, tells) in
+    let a : cond {A = ℕ} (g k) 1 0 ≡ cond (f k) 1 0 = ap (λ (b : Bool). cond b 1 0) here in
+    omega arith)
     (cases-eq k x)
 
 one-of-two : (f g : Bool) → (f ≡ true → g ≡ true) → cond f 1 0 + cond (g && not f) 1 0 ≡ cond g 1 0
@@ -78,13 +78,13 @@ count-from a b (suc k) le =
     let below = count-from a b k (omega arith) in
     ⊎-elim
     (λ (h : k < a).
-      let here : (leb a k && leb k b) ≡ false = grind (arith, tells) in
-      let c : cond {A = ℕ} (leb a k && leb k b) 1 0 ≡ 0 = ap (λ (t : Bool). cond t 1 0) here in
-      omega arith)
+    let here : (leb a k && leb k b) ≡ false = grind (arith, tells) in
+    let c : cond {A = ℕ} (leb a k && leb k b) 1 0 ≡ 0 = ap (λ (t : Bool). cond t 1 0) here in
+    omega arith)
     (λ (h : a ≤ k).
-      let here : (leb a k && leb k b) ≡ true = grind (arith, tells) in
-      let c : cond {A = ℕ} (leb a k && leb k b) 1 0 ≡ 1 = ap (λ (t : Bool). cond t 1 0) here in
-      omega arith)
+    let here : (leb a k && leb k b) ≡ true = grind (arith, tells) in
+    let c : cond {A = ℕ} (leb a k && leb k b) 1 0 ≡ 1 = ap (λ (t : Bool). cond t 1 0) here in
+    omega arith)
     (cases-lt k a)
 
 -- how many numbers lie between two, both among them
@@ -94,9 +94,9 @@ count-between a b zero le lt = absurd (omega arith)
 count-between a b (suc k) le lt =
     ⊎-elim
     (λ (h : b < k).
-      let below = count-between a b k le h in
-      let here : (leb a k && leb k b) ≡ false = grind (arith, tells) in
-      let c : cond {A = ℕ} (leb a k && leb k b) 1 0 ≡ 0 = ap (λ (t : Bool). cond t 1 0) here in
-      omega arith)
+    let below = count-between a b k le h in
+    let here : (leb a k && leb k b) ≡ false = grind (arith, tells) in
+    let c : cond {A = ℕ} (leb a k && leb k b) 1 0 ≡ 0 = ap (λ (t : Bool). cond t 1 0) here in
+    omega arith)
     (λ (h : k ≤ b). count-from a b (suc k) (omega arith) ∙ omega arith)
     (cases-lt b k)

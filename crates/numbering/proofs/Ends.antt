@@ -28,12 +28,13 @@ lowest-at (t ∷ ss) s rises lt e =
     let L : Span → Type 0 = λ x. Lowest (held (t ∷ ss)) (Some (x .low)) in
     let low = rises .1 in
     let here : inside t (t .low) ≡ true = grind (arith, tells) in
-    subst L (sym e)
-    (or-left (inside t (t .low)) (held ss (t .low)) here,
-    λ m in-it. ⊎-elim
-      (λ (h : m < t .low). absurd (both-ways (held (t ∷ ss) m) (none-below (t .low) m (t ∷ ss) (omega arith, rises .1, rises .2) h) in-it))
-      (λ (h : t .low ≤ m). h)
-      (cases-lt m (t .low)))
+    subst L (sym e) (
+      or-left (inside t (t .low)) (held ss (t .low)) here,
+      λ m in-it. ⊎-elim
+          (λ (h : m < t .low). absurd (both-ways (held (t ∷ ss) m) (none-below (t .low) m (t ∷ ss) (omega arith, rises .1, rises .2) h) in-it))
+          (λ (h : t .low ≤ m). h)
+          (cases-lt m (t .low)),
+    )
 
 inside-high : (s : Span) (m : ℕ) → inside s m ≡ true → m ≤ s .high
 inside-high s m e = leb-true m (s .high) (and-parts (leb (s .low) m) (leb m (s .high)) e .1)
@@ -42,18 +43,20 @@ pub highest-at : (xs : List Span) (b i : ℕ) (d : Span) → Rises b xs → suc 
 highest-at [] b i d rises e = absurd (omega arith)
 highest-at (s ∷ []) b zero d rises e =
     let low = rises .1 in
-    let here : inside s (s .high) ≡ true = grind (arith, tells) in
-    (or-left (inside s (s .high)) false here,
-    λ m in-it. ⊎-elim (λ (h : inside s m ≡ true). inside-high s m h) (λ (h : false ≡ true). absurd (both-ways false refl h)) (or-cases (inside s m) false in-it))
+    let here : inside s (s .high) ≡ true = grind (arith, tells) in (
+      or-left (inside s (s .high)) false here,
+      λ m in-it. ⊎-elim (λ (h : inside s m ≡ true). inside-high s m h) (λ (h : false ≡ true). absurd (both-ways false refl h)) (or-cases (inside s m) false in-it),
+    )
 highest-at (s ∷ t ∷ ss) b zero d rises e = absurd (omega arith)
 highest-at (s ∷ []) b (suc i) d rises e = absurd (omega arith)
 highest-at (s ∷ t ∷ ss) b (suc i) d rises e =
     let rest : List Span = t ∷ ss in
     let top = getD rest i d .high in
     let over = highest-at rest (s .high + 2) i d (rises .2) (omega arith) in
-    let above = rises-at (s .high + 2) i d rest (rises .2) (omega arith) in
-    (or-right (inside s top) (held rest top) (over .0),
-    λ m in-it. ⊎-elim (λ (h : inside s m ≡ true). omega (arith, inside-high s m h, above)) (λ (h : held rest m ≡ true). over .1 m h) (or-cases (inside s m) (held rest m) in-it))
+    let above = rises-at (s .high + 2) i d rest (rises .2) (omega arith) in (
+      or-right (inside s top) (held rest top) (over .0),
+      λ m in-it. ⊎-elim (λ (h : inside s m ≡ true). omega (arith, inside-high s m h, above)) (λ (h : held rest m ≡ true). over .1 m h) (or-cases (inside s m) (held rest m) in-it),
+    )
 
 pub highest-last : (xs : List Span) (s : Span) → Rises 0 xs → 0 < length xs → s ≡ getD xs (length xs - 1) s → Highest (held xs) (Some (s .high))
 highest-last xs s rises lt e =

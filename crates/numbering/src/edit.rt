@@ -38,10 +38,24 @@ fn extend(spans: &mut Vec<Span>, p: usize, span: Span, n: u32)
     if p + 1 < spans.len() {
         let Span { low, high } = spans[p + 1];
         if low - 1 == n {
-            return unite(spans, p, Span { low: span.low, high });
+            return unite(
+                spans,
+                p,
+                Span {
+                    low: span.low,
+                    high,
+                },
+            );
         }
     }
-    replace(spans, p, Span { low: span.low, high: n })
+    replace(
+        spans,
+        p,
+        Span {
+            low: span.low,
+            high: n,
+        },
+    )
 }
 
 // Enters `n`, which is no member, at its place.

@@ -45,5 +45,9 @@ pub(crate) fn seen_at(spans: &[Span], p: usize, n: u32) -> Seen
     if n <= high {
         return Seen::Repeated;
     }
-    if p + 1 == spans.len() { Seen::New } else { Seen::Late }
+    if p + 1 == spans.len() {
+        Seen::New
+    } else {
+        Seen::Late
+    }
 }

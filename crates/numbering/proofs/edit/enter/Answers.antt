@@ -16,7 +16,7 @@ extend-requires c κs =
       within = omega (arith, c .if-p-len .taken, c .len .ensures);
       before = c .pre .before;
       here = here;
-      touches = touches-above xs (c .args .p) (c .args .n) (c .index .result .now) (c .pre .before) (c .pre .behind) here (c .pre .absent) (c .if-low-n .taken)
+      touches = touches-above xs (c .args .p) (c .args .n) (c .index .result .now) (c .pre .before) (c .pre .behind) here (c .pre .absent) (c .if-low-n .taken);
     }
 
 pub returns-then-n-low : need.returns-then-n-low
@@ -29,9 +29,10 @@ pub returns : need.returns
 returns c =
     let xs = c .args .spans .now .items in
     entered-alone xs _ (c .args .p) (c .args .n) (c .pre .rises) (c .pre .before)
-    (elim (c .if-p-len .came)
-    [ then-p-len·else-low-n·else-n-low w ↦
-        (let here = here-is xs (c .args .p) (c .len .result) (w .index .result .now) (w .index .ensures) (w .if-p-len .taken) (omega (arith, c .len .ensures, c .args .spans .now .ok .0)) in
-        above-here (c .args .n) (c .args .p) (w .index .result .now) xs _ here (grind (arith, w .if-low-n .left, w .if-n-low .left)))
-    | else-p-len w ↦ above-none (c .args .n) (c .args .p) xs (omega (arith, w .if-p-len .left, c .len .ensures, c .args .spans .now .ok .0)) ])
+    (elim (c .if-p-len .came) [
+      | then-p-len·else-low-n·else-n-low w ↦
+          (let here = here-is xs (c .args .p) (c .len .result) (w .index .result .now) (w .index .ensures) (w .if-p-len .taken) (omega (arith, c .len .ensures, c .args .spans .now .ok .0)) in
+          above-here (c .args .n) (c .args .p) (w .index .result .now) xs _ here (grind (arith, w .if-low-n .left, w .if-n-low .left)))
+      | else-p-len w ↦ above-none (c .args .n) (c .args .p) xs (omega (arith, w .if-p-len .left, c .len .ensures, c .args .spans .now .ok .0))
+    ])
     (c .in-Continue-insert .ensures tt .items)

@@ -24,10 +24,11 @@ pub returns : need.returns
 returns c =
     let xs = c .args .spans .now .items in
     entered-higher xs _ (c .args .p) (c .args .n) (c .args .span) (c .pre .rises) (c .pre .before) (c .pre .here) (c .pre .touches)
-    (elim (c .if-p-len .came)
-    [ then-p-len·else-low-n w ↦
-        (let next = here-is xs (c .args .p + 1) (c .len .result) (w .index .result .now) (w .index .ensures) (w .if-p-len .taken) (omega (arith, c .len .ensures, c .args .spans .now .ok .0)) in
-        let up = next-above xs (c .args .p) (c .args .span) (w .index .result .now) (c .pre .rises) (c .pre .here) next in
-        above-here (c .args .n) (c .args .p + 1) (w .index .result .now) xs _ next (grind (arith, up, c .pre .touches, w .if-low-n .left)))
-    | else-p-len w ↦ above-none (c .args .n) (c .args .p + 1) xs (omega (arith, w .if-p-len .left, c .len .ensures, c .args .spans .now .ok .0)) ])
+    (elim (c .if-p-len .came) [
+      | then-p-len·else-low-n w ↦
+          (let next = here-is xs (c .args .p + 1) (c .len .result) (w .index .result .now) (w .index .ensures) (w .if-p-len .taken) (omega (arith, c .len .ensures, c .args .spans .now .ok .0)) in
+          let up = next-above xs (c .args .p) (c .args .span) (w .index .result .now) (c .pre .rises) (c .pre .here) next in
+          above-here (c .args .n) (c .args .p + 1) (w .index .result .now) xs _ next (grind (arith, up, c .pre .touches, w .if-low-n .left)))
+      | else-p-len w ↦ above-none (c .args .n) (c .args .p + 1) xs (omega (arith, w .if-p-len .left, c .len .ensures, c .args .spans .now .ok .0))
+    ])
     (c .replace .ensures)

@@ -8,7 +8,6 @@ use Rattle.numbering.specs.declared.span.Span.{Span}
 use Rattle.numbering.proofs.Places.{below-all, late-below, repeated-in, new-above, late-between, near-here}
 use Rattle.numbering.proofs.place.seen_at.Needs as need
 
-
 pub returns-then-p-spans : need.returns-then-p-spans
 returns-then-p-spans c =
     below-all (c .args .p) (c .args .n) (c .args .spans .now) [] (c .pre .before) (drop-all (c .args .p) (c .args .spans .now) (omega arith)) (λ m le. refl)

@@ -6,6 +6,7 @@ use Rattle.numbering.proofs.Counts.{count-none}
 use Rattle.numbering.proofs.numbers.Numbers.new.Needs as need
 
 pub ghost-result : need.ghost-result
-ghost-result c =
-    (ap (λ l. rising 0 l) (c .new .ensures .items),
-    (sym (count-none (held (c .new .result .items)) (2 ^ 32) (λ m. ap (λ l. held l m) (c .new .ensures .items))), tt))
+ghost-result c = (
+  ap (λ l. rising 0 l) (c .new .ensures .items),
+  (sym (count-none (held (c .new .result .items)) (2 ^ 32) (λ m. ap (λ l. held l m) (c .new .ensures .items))), tt),
+)

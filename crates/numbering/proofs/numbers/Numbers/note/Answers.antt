@@ -30,7 +30,7 @@ seen-at-seen-requires c κs =
       rises = subst R (sym (c .as-slice-2 .ensures .value)) (rises-since 0 (c .args .self .now .spans .items) (c .args .self .now .rises));
       within = subst W same (c .place-p .ensures .within);
       before = subst C same (c .place-p .ensures .before);
-      behind = subst N same (c .place-p .ensures .behind)
+      behind = subst N same (c .place-p .ensures .behind);
     }
 
 pub enter-requires : need.enter-requires
@@ -45,7 +45,7 @@ enter-requires c κs =
       within = omega (arith, c .place-p .ensures .within, c .as-slice .ensures .len);
       before = subst C same (c .place-p .ensures .before);
       behind = subst N same (c .place-p .ensures .behind);
-      absent = absent-since (held (c .args .self .now .spans .items)) (c .args .n) (c .seen-at-seen .result) answer (c .in-New .is)
+      absent = absent-since (held (c .args .self .now .spans .items)) (c .args .n) (c .seen-at-seen .result) answer (c .in-New .is);
     }
 
 pub add-self : need.add-self
