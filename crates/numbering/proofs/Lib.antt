@@ -2,3 +2,4 @@ mod Enters
 mod Counts
 mod Places
 mod Ends
+mod Notes
