@@ -3,3 +3,4 @@ mod Counts
 mod Places
 mod Ends
 mod Notes
+mod Stands

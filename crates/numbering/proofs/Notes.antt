@@ -80,8 +80,9 @@ highest-like f g (Some a) same high = (sym (same a) ∙ high .0, λ m h. high .1
 
 pub missing-like : (f g : ℕ → Bool) (r : ℕ) → ((m : ℕ) → f m ≡ g m) → Missing f r → Missing g r
 missing-like f g r same missing =
-    let back : (m : ℕ) → g m ≡ f m = λ m. sym (same m) in
-    (λ none. missing .0 (λ m. same m ∙ none m),
-    λ a b low high.
-      missing .1 a b (lowest-like g f (Some a) back low) (highest-like g f (Some b) back high)
-      ∙ count-same (lacking f a b) (lacking g a b) (2 ^ 32) (λ m lt. ap (λ t. (leb a m && leb m b) && not t) (same m)))
+    let back : (m : ℕ) → g m ≡ f m = λ m. sym (same m) in (
+      λ none. missing .0 (λ m. same m ∙ none m),
+      λ a b low high.
+          missing .1 a b (lowest-like g f (Some a) back low) (highest-like g f (Some b) back high)
+          ∙ count-same (lacking f a b) (lacking g a b) (2 ^ 32) (λ m lt. ap (λ t. (leb a m && leb m b) && not t) (same m)),
+    )
