@@ -23,8 +23,10 @@ fn find_flow(flows: &[Flow], last: usize, channel: u8, version: u16) -> usize
     if last < flows.len() && is_flow(&flows[last], channel, version) {
         return last;
     }
-    for (i, flow) in flows.iter().enumerate() {
-        if is_flow(flow, channel, version) {
+    let mut i = flows.len();
+    while i > 0 {
+        i -= 1;
+        if is_flow(&flows[i], channel, version) {
             return i;
         }
     }

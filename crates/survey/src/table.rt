@@ -36,8 +36,10 @@ fn find_destination(
     if last < destinations.len() && is_destination(&destinations[last], address, port) {
         return last;
     }
-    for (i, destination) in destinations.iter().enumerate() {
-        if is_destination(destination, address, port) {
+    let mut i = destinations.len();
+    while i > 0 {
+        i -= 1;
+        if is_destination(&destinations[i], address, port) {
             return i;
         }
     }
