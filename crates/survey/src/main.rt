@@ -25,8 +25,8 @@ const PROGRESS: u64 = 67108864;
 fn paths(rt: &LibcRuntime) -> Result<(String, String), AnyError> {
     let mut words = env::args(rt)?;
     let _ = words.next();
-    match (words.next(), words.next()) {
-        (Some(sheet), Some(capture)) => Ok((sheet, capture)),
+    match (words.next(), words.next(), words.next()) {
+        (Some(sheet), Some(capture), None) => Ok((sheet, capture)),
         _ => Err("usage: survey SHEET CAPTURE".into()),
     }
 }
@@ -37,7 +37,10 @@ fn load(rt: &LibcRuntime, path: &str) -> Result<Sheet, AnyError> {
     let mut sheet = Sheet::blank(rt.alloc())?;
     if let Err(fault) = fill(&mut sheet, text.as_slice()) {
         let line = fault.line;
-        return Err(format!(rt.alloc(), "{path}: line {line} breaks a rule of a layout sheet or is missing")?.into());
+        return Err(format!(
+            rt.alloc(),
+            "{path}: line {line} breaks a rule of a layout sheet or is missing"
+        )?.into());
     }
     Ok(sheet)
 }

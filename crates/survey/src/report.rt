@@ -52,7 +52,10 @@ fn write_reasons(out: &mut String, counts: &Counts) -> Result<(), AnyError> {
                 place,
             };
             let word = refusal.word();
-            writeln!(out, "    {number} {word:<12}{count:>12}   first at byte {place}, record {index}")?;
+            writeln!(
+                out,
+                "    {number} {word:<12}{count:>12}   first at byte {place}, record {index}"
+            )?;
         }
     }
     Ok(())

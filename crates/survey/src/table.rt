@@ -1,6 +1,8 @@
 ghost use mathlib.Core.Path.{_≡_};
 ghost use Prim.Native.Nat.{ℕ, _<_, _≤_};
-ghost use lib.ListN.{length};
+ghost use mathlib.Core.Bool.{true, false};
+ghost use lib.ListN.{length, getD};
+ghost use Rattle.survey.specs.Noting.{isDestination};
 ghost use Rattle.capture.specs.Held.{view};
 ghost use Rattle.capture.specs.Tally.{nothing, noted};
 use crate::destination::Destination;
@@ -20,18 +22,17 @@ pub struct Table {
     pub tally: Tally,
 }
 
-fn is_destination(destination: &Destination, address: u32, port: u16) -> bool {
+fn is_destination(destination: &Destination, address: u32, port: u16) -> bool
+    ensures { λ r. ⌜ r ≡ isDestination (now (destination .entry)) address port ⌝ }
+{
     destination.address == address && destination.port == port
 }
 
 // The place of an address and port, or the number of destinations where there is none.
-fn find_destination(
-    destinations: &[Destination],
-    last: usize,
-    address: u32,
-    port: u16,
-) -> usize
+fn find_destination(destinations: &[Destination], last: usize, address: u32, port: u16) -> usize
     ensures within { λ r. ⌜ r ≤ length (now (destinations .entry)) ⌝ }
+    ensures found { λ r. ⌜ ((d : Destination) → r < length (now (destinations .entry)) → isDestination (getD (now (destinations .entry)) r d) address port ≡ true) ⌝ }
+    ensures absent { λ r. ⌜ ((k : ℕ) (d : Destination) → r ≡ length (now (destinations .entry)) → k < length (now (destinations .entry)) → isDestination (getD (now (destinations .entry)) k d) address port ≡ false) ⌝ }
 {
     if last < destinations.len() && is_destination(&destinations[last], address, port) {
         return last;
@@ -72,10 +73,12 @@ impl Table {
         let port = datagram.port;
         let place = find_destination(self.destinations.as_slice(), self.last, address, port);
         if place == self.destinations.len() {
-            self.destinations.push(Destination::new(heap, address, port))?;
+            self.destinations
+                .push(Destination::new(heap, address, port))?;
         }
         self.last = place;
-        self.destinations[place].note(heap, sheet, datagram.payload, self.records)
+        self.destinations[place]
+            .note(heap, sheet, datagram.payload, self.records)
     }
 
     // Notes what a record holds.

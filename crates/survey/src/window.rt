@@ -37,7 +37,12 @@ pub fn drain(
 {
     let mut at = 0;
     loop {
-        match step(format, &window[at..], offset.saturating_add(at as u64), last) {
+        match step(
+            format,
+            &window[at..],
+            offset.saturating_add(at as u64),
+            last,
+        ) {
             Ok(Step::Taken(frame, size)) => {
                 table.note(heap, sheet, &frame)?;
                 at += size;
