@@ -43,13 +43,15 @@ pub fn drain(
             offset.saturating_add(at as u64),
             last,
         ) {
-            Ok(Step::Taken(frame, size)) => {
-                table.note(heap, sheet, &frame)?;
-                at += size;
-            }
-            Ok(Step::More(_)) => return Ok((at, Standing::More)),
-            Ok(Step::End) => return Ok((at, Standing::End)),
             Err(fault) => return Ok((at, Standing::Broken(fault))),
+            Ok(shown) => match shown {
+                Step::Taken(frame, size) => {
+                    table.note(heap, sheet, &frame)?;
+                    at += size;
+                }
+                Step::More(_) => return Ok((at, Standing::More)),
+                Step::End => return Ok((at, Standing::End)),
+            },
         }
     }
 }

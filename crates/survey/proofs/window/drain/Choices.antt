@@ -7,12 +7,12 @@ use Rattle.capture.specs.Records.{contents}
 use Rattle.capture.specs.Tally.{tallied}
 use Rattle.survey.proofs.window.drain.Given as given
 
-abbrev pub Inv-loop-at : given.InvT-loop-at
-Inv-loop-at l =
+abbrev pub Inv-loop-fault : given.InvT-loop-fault
+Inv-loop-fault l =
     (l .at ≤ length (l .window))
     × (l .offset + length (l .window) < 2 ^ 64 → (rest : List ℕ) → (l .last ≡ true → rest ≡ [])
     → tallied (l .entry .table .tally) (contents (l .format) 0 (l .window ++ rest) (l .offset))
     ≡ tallied (l .table .tally) (contents (l .format) 0 (drop (l .at) (l .window) ++ rest) (l .offset + l .at)))
 
-abbrev pub μ-loop-at : given.MeasureT-loop-at
-μ-loop-at l = length (l .window) - l .at
+abbrev pub μ-loop-fault : given.MeasureT-loop-fault
+μ-loop-fault l = length (l .window) - l .at
