@@ -1,0 +1,6 @@
+mod Enters
+mod Counts
+mod Places
+mod Ends
+mod Notes
+mod Stands
