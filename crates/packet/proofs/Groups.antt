@@ -38,7 +38,7 @@ parts-next size (suc n) k bs entry after l m e f =
     ap (λ x. x ∷ parts size n (drop size bs)) front ∙ (ap (λ x. entry ∷ parts size n x) back ∙ ap (λ j. entry ∷ parts size j after) (sym (sub-one (suc n))))
 
 pub group-of : (l : EntriesLayout) (m : List ℕ) (h : MessageHead) (size left w : ℕ) → 12 ≤ length m → h ≡ messageHead m → Some size ≡ numberAt m (12 + h .block) 2 → Some left ≡ numberAt m (12 + h .block + 2) (bytesOf (l .count)) → w ≡ bytesOf (l .count)
-  → parts size left (take (length m - (12 + h .block + 2 + w)) (drop (12 + h .block + 2 + w) m)) ≡ entryParts l m
+    → parts size left (take (length m - (12 + h .block + 2 + w)) (drop (12 + h .block + 2 + w) m)) ≡ entryParts l m
 group-of l m h size left w long e a b d =
     let c : h .block ≡ leAt m 4 2 = ap (λ x. x .block) e in
     let r0 : rootBlock m ≡ Some (drop 12 m) = cond-false _ _ _ (le-ltb (length m) 12 long) in
@@ -47,7 +47,7 @@ group-of l m h size left w long e a b d =
     let tail : take (length m - (12 + h .block + 2 + w)) (drop (12 + h .block + 2 + w) m) ≡ drop (12 + leAt m 4 2 + 2 + bytesOf (l .count)) m = take-rest m (12 + h .block + 2 + w) ∙ (ap (λ k. drop (12 + k + 2 + w) m) c ∙ ap (λ k. drop (12 + leAt m 4 2 + 2 + k) m) d) in
     ap (λ x. parts size left x) tail
     ∙ sym (
-      ap (λ r. orNone (also r (λ _. also (numberAt m (12 + leAt m 4 2) 2) (λ s. also (numberAt m (12 + leAt m 4 2 + 2) (bytesOf (l .count))) (λ n. Some (parts s n (drop (12 + leAt m 4 2 + 2 + bytesOf (l .count)) m))))))) r0
-      ∙ (ap (λ r. orNone (also r (λ s. also (numberAt m (12 + leAt m 4 2 + 2) (bytesOf (l .count))) (λ n. Some (parts s n (drop (12 + leAt m 4 2 + 2 + bytesOf (l .count)) m)))))) r1
-      ∙ ap (λ r. orNone (also r (λ n. Some (parts size n (drop (12 + leAt m 4 2 + 2 + bytesOf (l .count)) m))))) r2)
+    ap (λ r. orNone (also r (λ _. also (numberAt m (12 + leAt m 4 2) 2) (λ s. also (numberAt m (12 + leAt m 4 2 + 2) (bytesOf (l .count))) (λ n. Some (parts s n (drop (12 + leAt m 4 2 + 2 + bytesOf (l .count)) m))))))) r0
+    ∙ (ap (λ r. orNone (also r (λ s. also (numberAt m (12 + leAt m 4 2 + 2) (bytesOf (l .count))) (λ n. Some (parts s n (drop (12 + leAt m 4 2 + 2 + bytesOf (l .count)) m)))))) r1
+    ∙ ap (λ r. orNone (also r (λ n. Some (parts size n (drop (12 + leAt m 4 2 + 2 + bytesOf (l .count)) m))))) r2)
     )

@@ -27,7 +27,7 @@ ok-unit (Err x) e = absurd (true≢false (sym e))
 
 -- a message whose header keeps the rules is judged by its layout
 pub message-by-head : (s : Sheet) (bs : List ℕ) (at : ℕ) (h : MessageHead) → isOk (headCheck bs at) ≡ true → h ≡ messageHead bs
-  → messageCheck s bs at ≡ andThen (layoutCheck (find (vec-items (s .templates)) (h .template)) (take (h .length) bs) (h .block) at) (λ _. Ok (h .length))
+    → messageCheck s bs at ≡ andThen (layoutCheck (find (vec-items (s .templates)) (h .template)) (take (h .length) bs) (h .block) at) (λ _. Ok (h .length))
 message-by-head s bs at h a e =
     ap (λ q. andThen q (λ _. andThen (layoutCheck (find (vec-items (s .templates)) (leAt bs 6 2)) (take (leAt bs 0 2) bs) (leAt bs 4 2) at) (λ _. Ok (leAt bs 0 2)))) (ok-unit (headCheck bs at) a)
     ∙ ap (λ x. andThen (layoutCheck (find (vec-items (s .templates)) (x .template)) (take (x .length) bs) (x .block) at) (λ _. Ok (x .length))) (sym e)

@@ -31,6 +31,10 @@ impl FrameFault {
             FrameFault::Block(at) => (7, at),
             FrameFault::Group(at) => (8, at),
         };
-        Refusal { number, layer: Layer::Frame, place }
+        Refusal {
+            number,
+            layer: Layer::Frame,
+            place,
+        }
     }
 }

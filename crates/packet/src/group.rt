@@ -19,7 +19,11 @@ pub struct Entries<'a> {
 fn no_entries<'a>(part: &'a [u8]) -> Entries<'a>
     ensures { λ r. ⌜ parts (r .size) (r .left) (now (r .rest)) ≡ [] ⌝ }
 {
-    Entries { rest: part, size: 0, left: 0 }
+    Entries {
+        rest: part,
+        size: 0,
+        left: 0,
+    }
 }
 
 // The group behind the root block of an `entries` message.
@@ -36,7 +40,11 @@ pub fn entries_of<'a>(l: &EntriesLayout, part: &'a [u8]) -> Entries<'a>
     let Some(left) = number(part, start + 2, l.count) else {
         return no_entries(part);
     };
-    Entries { rest: &part[start + 2 + bytes_of(l.count)..], size: size as usize, left }
+    Entries {
+        rest: &part[start + 2 + bytes_of(l.count)..],
+        size: size as usize,
+        left,
+    }
 }
 
 impl<'a> Entries<'a> {

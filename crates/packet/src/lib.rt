@@ -1,9 +1,9 @@
+pub mod checked;
 pub mod fault;
+pub mod fields;
+pub mod group;
 pub mod head;
 pub mod message;
-pub mod values;
-pub mod fields;
-pub mod checked;
 pub mod rules;
+pub mod values;
 pub mod walk;
-pub mod group;

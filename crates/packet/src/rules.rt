@@ -46,7 +46,13 @@ fn head_check(rest: &[u8], at: usize) -> Result<MessageHead, FrameFault>
 }
 
 // The group of a message, which starts at `start`.
-fn group_check(l: &EntriesLayout, reach: u16, m: &[u8], start: usize, at: usize) -> Result<(), FrameFault>
+fn group_check(
+    l: &EntriesLayout,
+    reach: u16,
+    m: &[u8],
+    start: usize,
+    at: usize,
+) -> Result<(), FrameFault>
     requires { ⌜ (start ≤ length (now m)) × (length (now m) ≤ 65535) × (at ≤ 1400) × (reach ≡ groupReach (now l)) ⌝ }
     ensures { λ r. ⌜ r ≡ groupCheck (Entries (now (l .entry))) (now (m .entry)) start at ⌝ }
 {
@@ -91,7 +97,11 @@ fn message_check(sheet: &Sheet, rest: &[u8], at: usize) -> Result<usize, FrameFa
     ensures value { λ r. ⌜ r ≡ messageCheck (now (sheet .entry)) (now (rest .entry)) at ⌝ }
     ensures bounds { λ r. ⌜ made r (λ n. (12 ≤ n) × (n ≤ length (now (rest .entry)))) ⌝ }
 {
-    let MessageHead { length, block, template } = head_check(rest, at)?;
+    let MessageHead {
+        length,
+        block,
+        template,
+    } = head_check(rest, at)?;
     let m = &rest[0..length];
     if let Some(t) = sheet.template(template) {
         layout_check(t, m, block, at)?;

@@ -46,7 +46,11 @@ impl<'a, 's> Checked<'a, 's> {
         ensures { λ r. ⌜ (now (r .sheet) ≡ now (now (self .entry) .sheet)) × (now (r .rest) ≡ drop 16 (now (now (self .entry) .bytes))) × (r .at ≡ 16) ⌝ }
     {
         let bytes = self.bytes;
-        Walk { rest: &bytes[16..], at: 16, sheet: self.sheet }
+        Walk {
+            rest: &bytes[16..],
+            at: 16,
+            sheet: self.sheet,
+        }
     }
 }
 
@@ -99,7 +103,14 @@ impl<'a, 's> Walk<'a, 's> {
     {
         let rest = self.rest;
         let sheet = self.sheet;
-        let Some(MessageHead { length, block: _, template }) = head_of(rest) else {
+        let Some(
+            MessageHead {
+                length,
+                block: _,
+                template,
+            },
+        ) = head_of(rest)
+        else {
             return None;
         };
         let (part, after) = rest.split_at(length);

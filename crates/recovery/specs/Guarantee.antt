@@ -40,14 +40,14 @@ module _ {V O : Type 0} (K : Kind V O) (P : Publisher) where
   -- (a) A book that is not stale is the publisher's book of that instrument at the packet number that it shows.
   abbrev pub TrueBooks : Type 0
   TrueBooks = (o : Opening) (store : Model V O) (cs : List Call) → Served o store cs → (i : ℕ) → watched o i ≡ true
-    → (shown o (after K o store cs) i .sign ≡ Stale → ⊥)
-    → shown o (after K o store cs) i .book ≡ valueAt K P i (shown o (after K o store cs) i .number)
+      → (shown o (after K o store cs) i .sign ≡ Stale → ⊥)
+      → shown o (after K o store cs) i .book ≡ valueAt K P i (shown o (after K o store cs) i .number)
 
   -- (b) Two receivers that watch an instrument show the same of it exactly when their reach for it is equal, whatever each was fed.
   abbrev pub SameReach : Type 0
   SameReach = (o o′ : Opening) (store store′ : Model V O) (cs cs′ : List Call) → Served o store cs → Served o′ store′ cs′
-    → (i : ℕ) → watched o i ≡ true → watched o′ i ≡ true
-    → (shown o (after K o store cs) i ≡ shown o′ (after K o′ store′ cs′) i) ↔ (reachOf K o cs i ≡ reachOf K o′ cs′ i)
+      → (i : ℕ) → watched o i ≡ true → watched o′ i ≡ true
+      → (shown o (after K o store cs) i ≡ shown o′ (after K o′ store′ cs′) i) ↔ (reachOf K o cs i ≡ reachOf K o′ cs′ i)
 
   -- the call adopts a snapshot of packet n for the instrument i
   abbrev pub AdoptsBy : Opening → State V O → Call → ℕ → ℕ → Type 0
@@ -69,10 +69,10 @@ module _ {V O : Type 0} (K : Kind V O) (P : Publisher) where
   -- shelf then or was taken since, its book is current.
   abbrev pub ComesCurrent : Type 0
   ComesCurrent = (o : Opening) (store : Model V O) (cs : List Call) (c : Call) (since : List Call) → Served o store (cs ++ (c ∷ since))
-    → (i n : ℕ) → watched o i ≡ true → Adopts o (after K o store cs) c i n
-    → ((k : ℕ) → n < k → k ≤ after K o store (cs ++ (c ∷ since)) .plain .heard
-        → (isThere (after K o store cs .plain .shelf k) ≡ true) ⊎ TakenIn o (step K o (after K o store cs) c) since k)
-    → shown o (after K o store (cs ++ (c ∷ since))) i .sign ≡ Current
+      → (i n : ℕ) → watched o i ≡ true → Adopts o (after K o store cs) c i n
+      → ((k : ℕ) → n < k → k ≤ after K o store (cs ++ (c ∷ since)) .plain .heard
+      → (isThere (after K o store cs .plain .shelf k) ≡ true) ⊎ TakenIn o (step K o (after K o store cs) c) since k)
+      → shown o (after K o store (cs ++ (c ∷ since))) i .sign ≡ Current
 
 -- all three, for every honest publisher
 abbrev pub Recovery : {V O : Type 0} → Kind V O → (HeaderFields → List Part → V → Type 0) → Type 0

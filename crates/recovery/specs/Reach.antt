@@ -59,7 +59,13 @@ near heard there k = there k && ltb heard (k + 32)
 
 abbrev pub moved : ℕ → (ℕ → Bool) → (ℕ → Extent) → Reach → Reach
 moved h there extent r = record {
-  heard = h; there = near h there; extent = λ i. led h (near h there) (extent i); joined = r .joined; place = r .place; parts = r .parts }
+  heard = h;
+  there = near h there;
+  extent = λ i. led h (near h there) (extent i);
+  joined = r .joined;
+  place = r .place;
+  parts = r .parts;
+}
 
 abbrev pub tuned : Bool → Option Place → Option Parts → Reach → Reach
 tuned j l g r = record { heard = r .heard; there = r .there; extent = r .extent; joined = j; place = l; parts = g }
@@ -82,13 +88,13 @@ sound o room bytes = leb 44800 room && (isOk (packetCheck (o .sheet) bytes) && e
 -- a packet that is neither refused nor there
 abbrev pub takesPacket : Opening → Reach → ℕ → List ℕ → Bool
 takesPacket o r room bytes =
-  sound o room bytes && (eqb (packetHead bytes .version) (o .version) && (ltb 0 (packetHead bytes .number)
-  && (ltb (r .heard) (packetHead bytes .number + 32) && not (r .there (packetHead bytes .number)))))
+    sound o room bytes && (eqb (packetHead bytes .version) (o .version) && (ltb 0 (packetHead bytes .number)
+    && (ltb (r .heard) (packetHead bytes .number + 32) && not (r .there (packetHead bytes .number)))))
 
 abbrev pub takesSnapshot : Opening → Reach → ℕ → ℕ → List ℕ → Bool
 takesSnapshot o r j room bytes =
-  (r .joined && eqb j (o .own)) && (sound o room bytes && ((leb 1 (packetHead bytes .version) && leb (packetHead bytes .version) 65534)
-  && (ltb 0 (packetHead bytes .number) && not (seen (r .place) (packetHead bytes .version) (packetHead bytes .number)))))
+    (r .joined && eqb j (o .own)) && (sound o room bytes && ((leb 1 (packetHead bytes .version) && leb (packetHead bytes .version) 65534)
+    && (ltb 0 (packetHead bytes .number) && not (seen (r .place) (packetHead bytes .version) (packetHead bytes .number)))))
 
 abbrev pub behind : Extent → ℕ → Bool
 behind nowhere n = true
@@ -126,11 +132,11 @@ module _ {V O : Type 0} (K : Kind V O) (o : Opening) where
   -- where the reading of a snapshot packet starts
   abbrev pub placed : List ℕ → Reach → Reach
   placed bytes r = tuned (r .joined) (Some (record { loop = packetHead bytes .version; last = packetHead bytes .number }))
-    (cond (due (r .place) (packetHead bytes .version) (packetHead bytes .number)) (r .parts) None) r
+      (cond (due (r .place) (packetHead bytes .version) (packetHead bytes .number)) (r .parts) None) r
 
   abbrev pub reachStep : Reach → Call → Reach
   reachStep r (incremental room bytes) = cond (takesPacket o r room bytes)
-    (moved (max (r .heard) (packetHead bytes .number)) (λ k. eqb k (packetHead bytes .number) || r .there k) (r .extent) r) r
+      (moved (max (r .heard) (packetHead bytes .number)) (λ k. eqb k (packetHead bytes .number) || r .there k) (r .extent) r) r
   reachStep r join = cond (r .joined) r (tuned true (r .place) (r .parts) r)
   reachStep r (leave j) = cond (r .joined && eqb j (o .own)) (tuned false None None r) r
   reachStep r (snapshot j room bytes) = cond (takesSnapshot o r j room bytes) (tellAll (telling (messages (o .sheet) bytes)) (placed bytes r)) r
@@ -151,5 +157,5 @@ atHeard heard (upto n) = eqb n heard
 
 abbrev pub reachOf : {V O : Type 0} → Kind V O → Opening → List Call → ℕ → Reached
 reachOf K o cs i =
-  let r = reachRun K o (untouched o) cs in
-  record { extent = r .extent i; all = atHeard (r .heard) (r .extent i) }
+    let r = reachRun K o (untouched o) cs in
+    record { extent = r .extent i; all = atHeard (r .heard) (r .extent i) }

@@ -56,13 +56,13 @@ some-found w i = by-test (ltb (slotIn w i) (length w)) (λ e. rw e) (λ e. rw e)
 pub distinct-more : (w rest : List ℕ) (k : ℕ) (r : Option ℕ) → k < length w → rest ≡ drop (k + 1) w → r ≡ slotFound rest (getD w k 0) → isSome r ≡ false → distinct w ≡ distinct (drop k w) → distinct w ≡ distinct (drop (k + 1) w)
 distinct-more w rest k r l p q e h =
     let t : ltb (slotIn (drop (k + 1) w) (getD w k 0)) (length (drop (k + 1) w)) ≡ false
-          = sym (some-found (drop (k + 1) w) (getD w k 0)) ∙ ap (λ z. isSome (slotFound z (getD w k 0))) (sym p) ∙ ap isSome (sym q) ∙ e in
+    = sym (some-found (drop (k + 1) w) (getD w k 0)) ∙ ap (λ z. isSome (slotFound z (getD w k 0))) (sym p) ∙ ap isSome (sym q) ∙ e in
     h ∙ ap distinct (drop-more w k 0 l) ∙ rw t
 
 pub distinct-not : (w rest : List ℕ) (k : ℕ) (r : Option ℕ) → k < length w → rest ≡ drop (k + 1) w → r ≡ slotFound rest (getD w k 0) → isSome r ≡ true → distinct w ≡ distinct (drop k w) → false ≡ distinct w
 distinct-not w rest k r l p q e h =
     let t : ltb (slotIn (drop (k + 1) w) (getD w k 0)) (length (drop (k + 1) w)) ≡ true
-          = sym (some-found (drop (k + 1) w) (getD w k 0)) ∙ ap (λ z. isSome (slotFound z (getD w k 0))) (sym p) ∙ ap isSome (sym q) ∙ e in
+    = sym (some-found (drop (k + 1) w) (getD w k 0)) ∙ ap (λ z. isSome (slotFound z (getD w k 0))) (sym p) ∙ ap isSome (sym q) ∙ e in
     sym (h ∙ ap distinct (drop-more w k 0 l) ∙ rw t)
 
 pub distinct-all : (w : List ℕ) (k : ℕ) → length w ≤ k → distinct w ≡ distinct (drop k w) → true ≡ distinct w
@@ -84,11 +84,11 @@ NearFrom k first w = (i : ℕ) → k ≤ slotIn w i → getD first (i % 1024) 0 
 pub near-more : (k k′ : ℕ) (first w : List ℕ) → k ≡ k′ + 1 → k ≤ length w → length first ≡ 1024 → NearFrom k first w → NearFrom k′ (set first (getD w k′ 0 % 1024) k′) w
 near-more k k′ first w is l long near i h = ⊎-elim
     (λ (e : i % 1024 ≡ getD w k′ 0 % 1024).
-        subst (λ z. z ≤ slotIn w i) (sym (ap (λ z. getD (set first (getD w k′ 0 % 1024) k′) z 0) e ∙ getD-set-same first (getD w k′ 0 % 1024) k′ 0 (omega arith))) h)
+    subst (λ z. z ≤ slotIn w i) (sym (ap (λ z. getD (set first (getD w k′ 0 % 1024) k′) z 0) e ∙ getD-set-same first (getD w k′ 0 % 1024) k′ 0 (omega arith))) h)
     (λ (e : i % 1024 ≡ getD w k′ 0 % 1024 → ⊥).
-        let away : getD w k′ 0 ≡ i → ⊥ = λ z. e (ap (λ y. y % 1024) (sym z)) in
-        let later = slot-later w i k′ (omega arith) away h in
-        subst (λ z. z ≤ slotIn w i) (sym (getD-set-other first (getD w k′ 0 % 1024) (i % 1024) k′ 0 e)) (near i (omega arith)))
+    let away : getD w k′ 0 ≡ i → ⊥ = λ z. e (ap (λ y. y % 1024) (sym z)) in
+    let later = slot-later w i k′ (omega arith) away h in
+    subst (λ z. z ≤ slotIn w i) (sym (getD-set-other first (getD w k′ 0 % 1024) (i % 1024) k′ 0 e)) (near i (omega arith)))
     (cases-eq (i % 1024) (getD w k′ 0 % 1024))
 
 pub near-start : (n m : ℕ) (w : List ℕ) → m ≡ 1024 → NearFrom n (replicate m n) w

@@ -64,7 +64,11 @@ impl Watch {
         requires { ⌜ length (now list) ≤ 64 ⌝ ∗ ⌜ distinct (now list) ≡ true ⌝ }
         ensures { λ r. ⌜ watchOf r ≡ now (list .entry) ⌝ }
     {
-        Watch { ids: copied(list), count: list.len(), first: hints(list) }
+        Watch {
+            ids: copied(list),
+            count: list.len(),
+            first: hints(list),
+        }
     }
 
     // How many instruments are watched.

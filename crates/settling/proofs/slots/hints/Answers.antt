@@ -9,6 +9,8 @@ pub loop-k-holds : need.loop-k-holds
 loop-k-holds c = (omega arith, refl, near-start (length (c .args .list .now)) 1024 (c .args .list .now) refl)
 
 pub loop-k-again : need.loop-k-again
-loop-k-again c =
-    (omega arith, length-set (c .loop-k .first) _ _ ∙ c .loop-k .inv .1,
-    near-more (c .loop-k .k) (c .loop-k .k - 1) (c .loop-k .first) (c .args .list .now) (omega arith) (c .loop-k .inv .0) (c .loop-k .inv .1) (c .loop-k .inv .2))
+loop-k-again c = (
+  omega arith,
+  length-set (c .loop-k .first) _ _ ∙ c .loop-k .inv .1,
+  near-more (c .loop-k .k) (c .loop-k .k - 1) (c .loop-k .first) (c .args .list .now) (omega arith) (c .loop-k .inv .0) (c .loop-k .inv .1) (c .loop-k .inv .2),
+)

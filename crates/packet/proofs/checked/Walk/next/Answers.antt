@@ -28,8 +28,7 @@ ghost-self c =
     let n = ap (λ x. x .length) (h .1) in
     let near = c .args .self .now .near in
     let back = c .split-at .ensures .back in
-    let long = c .split-at .ensures .back-len in
-    (
+    let long = c .split-at .ensures .back-len in (
       subst (λ l. isOk (walkCheck s 0 l (at + c .in-Some .field-0 .length)) ≡ true) (sym back) (subst (λ k. isOk (walkCheck s 0 (drop k bs) (at + k)) ≡ true) (sym n) (f .onward)),
       (omega arith, tt),
     )
