@@ -1,0 +1,137 @@
+ghost use mathlib.Core.Path.{_≡_};
+ghost use mathlib.Core.Bool.{true};
+ghost use lib.ListN.{length};
+ghost use Rattle.std.specs.Results.{isOk};
+ghost use Rattle.packet.specs.Rules.{packetCheck, packetHead};
+ghost use Rattle.recovery.specs.Answers.{lawfulVersion, openingCheck, shelfCheck, bytesCheck, incrementalRules, snapshotRules, again, isNext};
+ghost use Rattle.receiver.specs.Standings.{openingOf};
+ghost use Rattle.receiver.specs.Judged.{judged};
+use crate::plain::Plain;
+use crate::subscription::Subscription;
+use packet::checked::Checked;
+use packet::head::PacketHead;
+use packet::rules::check;
+use recovery::answers::Incremental;
+use recovery::fault::StreamFault;
+use recovery::fault::StreamFromFrame;
+use recovery::marks::Followed;
+use settling::slots::all_different;
+use layout::sheet::Sheet;
+
+fn lawful_version(version: u16) -> bool
+    ensures { λ r. ⌜ r ≡ lawfulVersion version ⌝ }
+{
+    0 < version && version < 65535
+}
+
+// Whether a receiver can be opened with this watch list and version over a store of so many slots.
+pub fn check_opening(watch: &[u64], version: u16, slots: usize) -> Result<(), StreamFault>
+    ensures { λ r. ⌜ r ≡ openingCheck (now (watch .entry)) version slots ⌝ }
+{
+    if watch.len() == 0 || watch.len() > 64 || !all_different(watch) {
+        return Err(StreamFault::WatchList);
+    }
+    if !lawful_version(version) {
+        return Err(StreamFault::OwnVersion);
+    }
+    if slots < watch.len() {
+        return Err(StreamFault::Slots);
+    }
+    Ok(())
+}
+
+fn shelf_check(room: usize) -> Result<(), StreamFault>
+    ensures { λ r. ⌜ r ≡ shelfCheck room ⌝ }
+{
+    if room < 44800 {
+        return Err(StreamFault::Shelf(room));
+    }
+    Ok(())
+}
+
+// The header of a packet that keeps the rules.
+fn head_of(sheet: &Sheet, bytes: &[u8]) -> PacketHead
+    requires { ⌜ isOk (packetCheck (now sheet) (now bytes)) ≡ true ⌝ }
+    ensures { λ r. ⌜ r ≡ packetHead (now (bytes .entry)) ⌝ }
+{
+    Checked::new(sheet, bytes).head()
+}
+
+impl Subscription {
+    // The shelf's length, then the packet itself.
+    fn bytes_check(&self, room: usize, bytes: &[u8]) -> Result<(), StreamFault>
+        ensures { λ r. ⌜ r ≡ bytesCheck (openingOf (now (self .entry))) room (now (bytes .entry)) ⌝ }
+    {
+        shelf_check(room)?;
+        check(&self.sheet, bytes)?;
+        Ok(())
+    }
+
+    fn incremental_rules(&self, heard: u64, h: PacketHead) -> Result<(), StreamFault>
+        ensures { λ r. ⌜ r ≡ incrementalRules (openingOf (now (self .entry))) heard h ⌝ }
+    {
+        if h.channel != self.channel {
+            return Err(StreamFault::Channel);
+        }
+        if h.version != self.version {
+            return Err(StreamFault::Version);
+        }
+        if h.number == 0 {
+            return Err(StreamFault::Number);
+        }
+        if u64::from(h.number) + 32 <= heard {
+            return Err(StreamFault::Late);
+        }
+        Ok(())
+    }
+
+    fn snapshot_rules(&self, h: PacketHead) -> Result<(), StreamFault>
+        ensures { λ r. ⌜ r ≡ snapshotRules (openingOf (now (self .entry))) h ⌝ }
+    {
+        if h.channel != self.channel {
+            return Err(StreamFault::Channel);
+        }
+        if !lawful_version(h.version) {
+            return Err(StreamFault::Version);
+        }
+        if h.number == 0 {
+            return Err(StreamFault::Number);
+        }
+        Ok(())
+    }
+
+    // What becomes of an incremental packet.
+    pub(crate) fn judge(&self, plain: &Plain, room: usize, bytes: &[u8]) -> Result<Incremental, StreamFault>
+        ensures { λ r. ⌜ r ≡ judged (openingOf (now (self .entry))) (now (plain .entry) .places .heard) (now (plain .entry) .places .numbers) room (now (bytes .entry)) ⌝ }
+    {
+        self.bytes_check(room, bytes)?;
+        let h = head_of(&self.sheet, bytes);
+        self.incremental_rules(plain.places.heard, h)?;
+        if plain.places.shelved(u64::from(h.number)) {
+            return Ok(Incremental::Repeat);
+        }
+        Ok(Incremental::Taken)
+    }
+}
+
+impl Plain {
+    // Whether packet s of the loop l has been taken already.
+    pub(crate) fn again(&self, l: u16, s: u32) -> bool
+        ensures { λ r. ⌜ r ≡ again (now (self .entry) .followed) l s ⌝ }
+    {
+        match self.followed {
+            Followed::Nothing => false,
+            Followed::Upto(loop_number, last) => l == loop_number && s <= last,
+        }
+    }
+
+    // Whether packet s of the loop l is the one that is due.
+    pub(crate) fn is_next(&self, l: u16, s: u32) -> bool
+        ensures { λ r. ⌜ r ≡ isNext (now (self .entry) .followed) l s ⌝ }
+    {
+        match self.followed {
+            Followed::Nothing => false,
+            Followed::Upto(loop_number, last) => l == loop_number && u64::from(s) == u64::from(last) + 1,
+        }
+    }
+}

@@ -1,0 +1,4 @@
+pub mod subscription;
+pub mod plain;
+pub mod checks;
+pub mod renewal;
