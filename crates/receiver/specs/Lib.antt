@@ -1,2 +1,3 @@
 pub mod Standings
 pub mod Judged
+pub mod Joins

@@ -1,9 +1,11 @@
 ghost use mathlib.Core.Path.{_≡_};
-ghost use mathlib.Core.Bool.{true};
+ghost use mathlib.Core.Bool.{true, not, _&&_};
+ghost use lib.Dec.{eqb};
+ghost use Rattle.recovery.specs.declared.fault.StreamFault.the-variants.{Join};
 ghost use lib.ListN.{length};
 ghost use Rattle.std.specs.Results.{isOk};
 ghost use Rattle.packet.specs.Rules.{packetCheck, packetHead};
-ghost use Rattle.recovery.specs.Answers.{lawfulVersion, openingCheck, shelfCheck, bytesCheck, incrementalRules, snapshotRules, again, isNext};
+ghost use Rattle.recovery.specs.Answers.{refuses, lawfulVersion, openingCheck, shelfCheck, bytesCheck, incrementalRules, snapshotRules, again, isNext};
 ghost use Rattle.receiver.specs.Standings.{openingOf};
 ghost use Rattle.receiver.specs.Judged.{judged};
 use crate::plain::Plain;
@@ -50,7 +52,7 @@ fn shelf_check(room: usize) -> Result<(), StreamFault>
 }
 
 // The header of a packet that keeps the rules.
-fn head_of(sheet: &Sheet, bytes: &[u8]) -> PacketHead
+pub(crate) fn head_of(sheet: &Sheet, bytes: &[u8]) -> PacketHead
     requires { ⌜ isOk (packetCheck (now sheet) (now bytes)) ≡ true ⌝ }
     ensures { λ r. ⌜ r ≡ packetHead (now (bytes .entry)) ⌝ }
 {
@@ -96,6 +98,16 @@ impl Subscription {
         }
         if h.number == 0 {
             return Err(StreamFault::Number);
+        }
+        Ok(())
+    }
+
+    // Whether a join that carries the number `own` is the receiver's present one.
+    pub(crate) fn join_check(&self, joined: bool, own: u64) -> Result<(), StreamFault>
+        ensures { λ r. ⌜ r ≡ refuses (not (joined && eqb own (now (self .entry) .own))) Join ⌝ }
+    {
+        if !joined || own != self.own {
+            return Err(StreamFault::Join);
         }
         Ok(())
     }
