@@ -7,3 +7,4 @@ pub mod renewal;
 pub mod calls;
 pub mod groups;
 pub mod messages;
+pub mod snapshot;

@@ -3,7 +3,8 @@ ghost use mathlib.Core.Bool.{true};
 ghost use Prim.Native.Nat.{_≤_};
 ghost use lib.ListN.{length};
 ghost use Rattle.packet.specs.Meaning.{entryParts};
-ghost use Rattle.packet.specs.Rules.{messages};
+ghost use Rattle.std.specs.Results.{isOk};
+ghost use Rattle.packet.specs.Rules.{messages, packetCheck};
 ghost use Rattle.packet.specs.Views.{view};
 ghost use Rattle.recovery.specs.Reading.{opensFor, entriesFor, told};
 ghost use Rattle.recovery.specs.Groups.{eventSteps, messageSteps};
@@ -93,7 +94,7 @@ fn tell<S: Store>(plain: &mut Plain, store: &mut S, sub: &Subscription, shelf: &
 }
 
 // Every message of a snapshot packet, in order; the number of adoptions.
-pub(crate) fn follow<S: Store>(plain: &mut Plain, store: &mut S, sub: &Subscription, shelf: &[u8], packet: Checked) -> usize
+fn follow<S: Store>(plain: &mut Plain, store: &mut S, sub: &Subscription, shelf: &[u8], packet: Checked) -> usize
     requires { ⌜ 44800 ≤ length (now shelf) ⌝ ∗ ⌜ attended (watchOf (now sub .watch)) (now plain .pending) ≡ true ⌝ }
     ensures state { λ _. ⌜ stateIn (kind (setup (now (store .entry)))) (now (sub .entry)) (now (plain .exit)) (model (now (store .exit))) (now (shelf .entry)) ≡ messageSteps (kind (setup (now (store .entry)))) (openingOf (now (sub .entry))) (messages (now (packet .entry .sheet)) (now (packet .entry .bytes))) (stateIn (kind (setup (now (store .entry)))) (now (sub .entry)) (now (plain .entry)) (model (now (store .entry))) (now (shelf .entry))) ⌝ }
     ensures log { λ r. ⌜ length (messageLogs (kind (setup (now (store .entry)))) (openingOf (now (sub .entry))) (messages (now (packet .entry .sheet)) (now (packet .entry .bytes))) (stateIn (kind (setup (now (store .entry)))) (now (sub .entry)) (now (plain .entry)) (model (now (store .entry))) (now (shelf .entry)))) ≡ r ⌝ }
@@ -108,4 +109,15 @@ pub(crate) fn follow<S: Store>(plain: &mut Plain, store: &mut S, sub: &Subscript
         }
     }
     adoptions
+}
+
+// Every message of a snapshot packet that keeps the rules; the number of adoptions.
+pub(crate) fn follow_bytes<S: Store>(plain: &mut Plain, store: &mut S, sub: &Subscription, shelf: &[u8], bytes: &[u8]) -> usize
+    requires { ⌜ 44800 ≤ length (now shelf) ⌝ ∗ ⌜ attended (watchOf (now sub .watch)) (now plain .pending) ≡ true ⌝ ∗ ⌜ isOk (packetCheck (now sub .sheet) (now bytes)) ≡ true ⌝ }
+    ensures state { λ _. ⌜ stateIn (kind (setup (now (store .entry)))) (now (sub .entry)) (now (plain .exit)) (model (now (store .exit))) (now (shelf .entry)) ≡ messageSteps (kind (setup (now (store .entry)))) (openingOf (now (sub .entry))) (messages (now (sub .entry) .sheet) (now (bytes .entry))) (stateIn (kind (setup (now (store .entry)))) (now (sub .entry)) (now (plain .entry)) (model (now (store .entry))) (now (shelf .entry))) ⌝ }
+    ensures log { λ r. ⌜ length (messageLogs (kind (setup (now (store .entry)))) (openingOf (now (sub .entry))) (messages (now (sub .entry) .sheet) (now (bytes .entry))) (stateIn (kind (setup (now (store .entry)))) (now (sub .entry)) (now (plain .entry)) (model (now (store .entry))) (now (shelf .entry)))) ≡ r ⌝ }
+    ensures attends { λ _. ⌜ attended (watchOf (now (sub .entry) .watch)) (now (plain .exit) .pending) ≡ true ⌝ }
+    ensures stays { λ _. ⌜ setup (now (store .exit)) ≡ setup (now (store .entry)) ⌝ }
+{
+    follow(plain, store, sub, shelf, Checked::new(&sub.sheet, bytes))
 }
