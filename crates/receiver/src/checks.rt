@@ -13,6 +13,7 @@ ghost use Rattle.receiver.specs.Judged.{judged};
 ghost use Rattle.receiver.specs.Notes.{notedPlain};
 use crate::plain::Plain;
 use crate::subscription::Subscription;
+use layout::sheet::Sheet;
 use packet::checked::Checked;
 use packet::head::PacketHead;
 use packet::rules::check;
@@ -22,7 +23,6 @@ use recovery::fault::StreamFromFrame;
 use recovery::marks::Followed;
 use recovery::marks::Pending;
 use settling::slots::all_different;
-use layout::sheet::Sheet;
 
 fn lawful_version(version: u16) -> bool
     ensures { λ r. ⌜ r ≡ lawfulVersion version ⌝ }
@@ -117,7 +117,13 @@ impl Subscription {
     }
 
     // The header of a snapshot packet that a call may bring under this join.
-    pub(crate) fn admit(&self, plain: &Plain, own: u64, room: usize, bytes: &[u8]) -> Result<PacketHead, StreamFault>
+    pub(crate) fn admit(
+        &self,
+        plain: &Plain,
+        own: u64,
+        room: usize,
+        bytes: &[u8],
+    ) -> Result<PacketHead, StreamFault>
         ensures { λ r. ⌜ Cases r (λ h. (snapshotCheck (openingOf (now (self .entry))) (plainOf (now (self .entry) .sheet) (now (plain .entry)) []) own room (now (bytes .entry)) ≡ Ok tt) × (h ≡ packetHead (now (bytes .entry)))) (λ e. snapshotCheck (openingOf (now (self .entry))) (plainOf (now (self .entry) .sheet) (now (plain .entry)) []) own room (now (bytes .entry)) ≡ Err e) ⌝ }
     {
         self.join_check(plain.joined, own)?;
@@ -128,7 +134,12 @@ impl Subscription {
     }
 
     // What becomes of an incremental packet.
-    pub(crate) fn judge(&self, plain: &Plain, room: usize, bytes: &[u8]) -> Result<Incremental, StreamFault>
+    pub(crate) fn judge(
+        &self,
+        plain: &Plain,
+        room: usize,
+        bytes: &[u8],
+    ) -> Result<Incremental, StreamFault>
         ensures { λ r. ⌜ r ≡ judged (openingOf (now (self .entry))) (now (plain .entry) .places .heard) (now (plain .entry) .places .numbers) room (now (bytes .entry)) ⌝ }
     {
         self.bytes_check(room, bytes)?;
@@ -168,7 +179,8 @@ impl Plain {
     {
         match self.followed {
             Followed::Nothing => false,
-            Followed::Upto(loop_number, last) => l == loop_number && u64::from(s) == u64::from(last) + 1,
+            Followed::Upto(loop_number, last) => l == loop_number
+                && u64::from(s) == u64::from(last) + 1,
         }
     }
 }

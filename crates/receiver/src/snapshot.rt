@@ -11,7 +11,13 @@ use store::store::Store;
 
 impl Receiver {
     // Takes a snapshot packet under the present join; the answer tells how many books it adopted. The shelf stays as it is.
-    pub fn snapshot<S: Store>(&mut self, store: &mut S, shelf: &[u8], join: &Join, bytes: &[u8]) -> Result<Snapshot, StreamFault>
+    pub fn snapshot<S: Store>(
+        &mut self,
+        store: &mut S,
+        shelf: &[u8],
+        join: &Join,
+        bytes: &[u8],
+    ) -> Result<Snapshot, StreamFault>
         ensures answer { λ r. ⌜ r ≡ snapshotAnswer (kind (setup (now (store .entry)))) (openingOf (now (self .entry) .sub)) (now (join .entry) .own) (length (now (shelf .entry))) (now (bytes .entry)) (stateIn (kind (setup (now (store .entry)))) (now (self .entry) .sub) (now (self .entry) .plain) (model (now (store .entry))) (now (shelf .entry))) ⌝ }
         ensures state { λ _. ⌜ stateIn (kind (setup (now (store .entry)))) (now (self .entry) .sub) (now (self .exit) .plain) (model (now (store .exit))) (now (shelf .entry)) ≡ snapshotStep (kind (setup (now (store .entry)))) (openingOf (now (self .entry) .sub)) (now (join .entry) .own) (length (now (shelf .entry))) (now (bytes .entry)) (stateIn (kind (setup (now (store .entry)))) (now (self .entry) .sub) (now (self .entry) .plain) (model (now (store .entry))) (now (shelf .entry))) ⌝ }
         ensures opening { λ _. ⌜ now (self .exit) .sub ≡ now (self .entry) .sub ⌝ }

@@ -24,10 +24,12 @@ loop-m-again-then-tell g c =
     let same = ap (m .kind) (c .loop-m .inv .2) in let e = c .in-Some .ensures tt in let last = c .next .last .self in let v = view (c .in-Some .m) in
     let p = c .loop-m .plain in let s = m .model (c .loop-m .store) in let p′ = c .tell .last .plain in let s′ = m .model (c .tell .last .store) in
     let step = subst (λ z. stateIn z u p′ s′ b ≡ eventSteps z o (told v) (stateIn z u p s b)) same (c .tell .ensures .state) in
-    let log = subst (λ z. length (eventLogs z o (told v) (stateIn z u p s b)) ≡ bit (c .tell .result)) same (c .tell .ensures .log) in
-    (ahead-next K o (c .loop-m .adoptions) (c .tell .result) _ _ _ v _ (stateIn K u p s b) (stateIn K u p′ s′ b) (c .loop-m .inv .0)
-      (e .step ∙ ap (λ z. v ∷ messagesFrom z 0 (now (last .rest))) (sym (e .sheet))) step log (c .loop-m .adoptions + 1) (ap (λ z. c .loop-m .adoptions + bit z) (sym (c .if-tell .taken))),
-    c .tell .ensures .attends, c .tell .ensures .stays ∙ c .loop-m .inv .2)
+    let log = subst (λ z. length (eventLogs z o (told v) (stateIn z u p s b)) ≡ bit (c .tell .result)) same (c .tell .ensures .log) in (
+      ahead-next K o (c .loop-m .adoptions) (c .tell .result) _ _ _ v _ (stateIn K u p s b) (stateIn K u p′ s′ b) (c .loop-m .inv .0)
+          (e .step ∙ ap (λ z. v ∷ messagesFrom z 0 (now (last .rest))) (sym (e .sheet))) step log (c .loop-m .adoptions + 1) (ap (λ z. c .loop-m .adoptions + bit z) (sym (c .if-tell .taken))),
+      c .tell .ensures .attends,
+      c .tell .ensures .stays ∙ c .loop-m .inv .2,
+    )
 
 pub loop-m-again : need.loop-m-again
 loop-m-again g c =
@@ -35,10 +37,12 @@ loop-m-again g c =
     let same = ap (m .kind) (c .loop-m .inv .2) in let e = c .in-Some .ensures tt in let last = c .next .last .self in let v = view (c .in-Some .m) in
     let p = c .loop-m .plain in let s = m .model (c .loop-m .store) in let p′ = c .tell .last .plain in let s′ = m .model (c .tell .last .store) in
     let step = subst (λ z. stateIn z u p′ s′ b ≡ eventSteps z o (told v) (stateIn z u p s b)) same (c .tell .ensures .state) in
-    let log = subst (λ z. length (eventLogs z o (told v) (stateIn z u p s b)) ≡ bit (c .tell .result)) same (c .tell .ensures .log) in
-    (ahead-next K o (c .loop-m .adoptions) (c .tell .result) _ _ _ v _ (stateIn K u p s b) (stateIn K u p′ s′ b) (c .loop-m .inv .0)
-      (e .step ∙ ap (λ z. v ∷ messagesFrom z 0 (now (last .rest))) (sym (e .sheet))) step log (c .loop-m .adoptions) (omega (arith, ap bit (c .if-tell .left))),
-    c .tell .ensures .attends, c .tell .ensures .stays ∙ c .loop-m .inv .2)
+    let log = subst (λ z. length (eventLogs z o (told v) (stateIn z u p s b)) ≡ bit (c .tell .result)) same (c .tell .ensures .log) in (
+      ahead-next K o (c .loop-m .adoptions) (c .tell .result) _ _ _ v _ (stateIn K u p s b) (stateIn K u p′ s′ b) (c .loop-m .inv .0)
+          (e .step ∙ ap (λ z. v ∷ messagesFrom z 0 (now (last .rest))) (sym (e .sheet))) step log (c .loop-m .adoptions) (omega (arith, ap bit (c .if-tell .left))),
+      c .tell .ensures .attends,
+      c .tell .ensures .stays ∙ c .loop-m .inv .2,
+    )
 
 pub returns : need.returns
 returns g c =
@@ -50,4 +54,5 @@ returns g c =
       state = q .0 ∙ ap (λ z. messageSteps K o z s₀) all;
       log = ap (λ z. length (messageLogs K o z s₀)) (sym all) ∙ q .1;
       attends = c .loop-m .inv .1;
-      stays = c .loop-m .inv .2 }
+      stays = c .loop-m .inv .2;
+    }

@@ -12,7 +12,7 @@ pub returns-in-Some : need.returns-in-Some
 returns-in-Some g c =
     let m = g .S·Store in let u = c .args .sub .now in let K = m .kind (m .setup (c .args .store .now)) in let v = view (c .args .m .now) in
     let is : told v ≡ adds (c .in-Some .i) (orTorn number (statFields (c .in-Stat .l .now) (c .in-Stat .part .now))) ∷ []
-          = ap (λ z. toldBy (v .layout) z (v .bytes)) (sym (c .in-Some .ensures tt)) ∙ ap (λ z. toldBy (view z .layout) (Some (c .in-Some .i)) (view z .bytes)) (c .in-Stat .is) in
+    = ap (λ z. toldBy (v .layout) z (v .bytes)) (sym (c .in-Some .ensures tt)) ∙ ap (λ z. toldBy (view z .layout) (Some (c .in-Some .i)) (view z .bytes)) (c .in-Stat .is) in
     let q = only K (openingOf u) v _ (stateIn K u (c .args .plain .now) (m .model (c .args .store .now)) (c .args .shelf .now)) _ _ is (c .grow .ensures .state) (c .grow .ensures .log) in
     record { state = q .0; log = q .1; attends = c .grow .ensures .attends; stays = c .grow .ensures .stays }
 
