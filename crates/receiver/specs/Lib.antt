@@ -1,0 +1,4 @@
+pub mod Standings
+pub mod Judged
+pub mod Joins
+pub mod Notes

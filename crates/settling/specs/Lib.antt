@@ -1,0 +1,5 @@
+pub mod Slots
+pub mod Watched
+pub mod Marks
+pub mod Passes
+pub mod Each
