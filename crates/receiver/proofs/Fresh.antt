@@ -20,9 +20,13 @@ use Rattle.recovery.specs.declared.marks.Pending.the-variants.{Closed}
 use Rattle.recovery.specs.declared.fault.StreamFault.the-variants.{WatchList}
 use Rattle.recovery.specs.Shelf.{absent, shelfOf}
 use Rattle.recovery.specs.Books.{book}
-use Rattle.recovery.specs.State.{Opening, distinct, restOf, opened, stateOf}
+use Rattle.recovery.specs.State.{distinct, restOf, opened}
 use Rattle.recovery.specs.Answers.{openingCheck, refuses}
 use Rattle.settling.specs.declared.places.Places.{Places}
+use Rattle.settling.specs.Watched.{watchOf}
+use Rattle.receiver.specs.declared.subscription.Subscription.{Subscription}
+use Rattle.receiver.specs.declared.plain.Plain.{Plain}
+use Rattle.receiver.specs.Standings.{openingOf, stateIn}
 use Rattle.receiver.proofs.Accepted.{and-ok, refuses-ok}
 
 -- one place more has the value x
@@ -54,11 +58,12 @@ fresh-book false x v w d e f = ap₂ book e f
 bare : (sheet : Sheet) (t : Places) (bytes : List ℕ) → t .heard ≡ 0 → (k : ℕ) → shelfOf sheet (t .heard) (t .numbers) (t .lengths) bytes k ≡ absent
 bare sheet t bytes e k = let u = t .low (k % 32) in grind (arith, tells)
 
-pub opens-fresh : {V O : Type 0} (K : Kind V O) (o : Opening) (t : Places) (ms : List Mark) (s s′ : Model V O) (n : ℕ) (bytes : List ℕ) → n ≡ length (o .watch) → t .heard ≡ 0
-    → ((q : ℕ) → getD ms q Stale ≡ cond (ltb q n) (AsOf 0) Stale) → ((q : ℕ) → valueAt K s′ q ≡ cond (ltb q n) (K .fresh) (valueAt K s q)) → restOf K s ≡ restOf K s′
-    → stateOf K (record { heard = t .heard; shelf = shelfOf (o .sheet) (t .heard) (t .numbers) (t .lengths) bytes; joined = false; followed = Nothing; pending = Closed }) ms s′ ≡ opened K o s
-opens-fresh K o t ms s s′ n bytes is e marks values rest = λ j. record {
-  plain = record { heard = e j; shelf = λ k. bare (o .sheet) t bytes e k j; joined = false; followed = Nothing; pending = Closed };
+pub opens-fresh : {V O : Type 0} (K : Kind V O) (u : Subscription) (p : Plain) (s s′ : Model V O) (n : ℕ) (bytes : List ℕ) → n ≡ length (watchOf (u .watch))
+    → p .places .heard ≡ 0 → p .joined ≡ false → p .followed ≡ Nothing → p .pending ≡ Closed
+    → ((q : ℕ) → getD (p .marks .at) q Stale ≡ cond (ltb q n) (AsOf 0) Stale) → ((q : ℕ) → valueAt K s′ q ≡ cond (ltb q n) (K .fresh) (valueAt K s q)) → restOf K s ≡ restOf K s′
+    → stateIn K u p s′ bytes ≡ opened K (openingOf u) s
+opens-fresh K u p s s′ n bytes is heard joined followed pending marks values rest = λ j. record {
+  plain = record { heard = heard j; shelf = λ k. bare (u .sheet) (p .places) bytes heard k j; joined = joined j; followed = followed j; pending = pending j };
   books = λ q. (fresh-book (ltb q n) _ _ _ _ (marks q) (values q) ∙ ap (λ m. cond (ltb q m) (book (AsOf 0) (K .fresh)) (book Stale (valueAt K s q))) is) j;
   rest = sym rest j;
 }

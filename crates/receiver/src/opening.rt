@@ -1,5 +1,5 @@
 ghost use mathlib.Core.Path.{_≡_};
-ghost use mathlib.Core.Bool.{cond};
+ghost use mathlib.Core.Bool.{cond, false};
 ghost use mathlib.Core.List.{List};
 ghost use Prim.Native.Nat.{ℕ, _≤_};
 ghost use lib.Dec.{ltb};
@@ -7,6 +7,8 @@ ghost use lib.ListN.{length, getD};
 ghost use Rattle.std.specs.declared.result.Result.the-variants.{Ok};
 ghost use Rattle.store.specs.Calls.{valueAt};
 ghost use Rattle.recovery.specs.declared.marks.Mark.the-variants.{Stale, AsOf};
+ghost use Rattle.recovery.specs.declared.marks.Followed.the-variants.{Nothing};
+ghost use Rattle.recovery.specs.declared.marks.Pending.the-variants.{Closed};
 ghost use Rattle.recovery.specs.Answers.{openingCheck};
 ghost use Rattle.recovery.specs.State.{restOf, opened};
 ghost use Rattle.receiver.specs.Standings.{openingOf, stateIn};
@@ -45,6 +47,21 @@ fn freshen_all<S: Store>(store: &mut S, n: usize)
     }
 }
 
+// The plain part of a new receiver of n instruments.
+fn new_plain(n: usize) -> Plain
+    requires { ⌜ n ≤ 64 ⌝ }
+    ensures marks { λ r. ⌜ ((q : ℕ) → getD (r .marks .at) q Stale ≡ cond (ltb q n) (AsOf 0) Stale) ⌝ }
+    ensures others { λ r. ⌜ (r .places .heard ≡ 0) × (r .joined ≡ false) × (r .followed ≡ Nothing) × (r .pending ≡ Closed) ⌝ }
+{
+    Plain {
+        places: Places::empty(),
+        marks: fresh_marks(n),
+        joined: false,
+        followed: Followed::Nothing,
+        pending: Pending::Closed,
+    }
+}
+
 impl Receiver {
     // A receiver that `check_opening` has passed, over a store whose watched slots it freshens.
     pub fn open<S: Store>(
@@ -69,13 +86,7 @@ impl Receiver {
                 watch: Watch::new(watch),
                 sheet,
             },
-            plain: Plain {
-                places: Places::empty(),
-                marks: fresh_marks(watch.len()),
-                joined: false,
-                followed: Followed::Nothing,
-                pending: Pending::Closed,
-            },
+            plain: new_plain(watch.len()),
         }
     }
 }
