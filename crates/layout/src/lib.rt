@@ -1,5 +1,6 @@
 pub mod find;
 pub mod kinds;
+pub mod making;
 pub mod reach;
 pub mod sheet;
 pub mod template;

@@ -33,12 +33,12 @@ messages-by : (s : Sheet) (b : ℕ) (bs : List ℕ) (n : ℕ) → 0 < n → mess
 messages-by s b bs zero l = absurd (omega arith)
 messages-by s b bs (suc n) l = ap (λ k. messagesFrom s k bs) (sub-one (suc n)) ∙ messages-skip s n bs
 
-messages-next : (s : Sheet) (bs : List ℕ) → 0 < length bs → 0 < leAt bs 0 2 → messagesFrom s 0 bs ≡ msgAt s bs ∷ messagesFrom s 0 (drop (leAt bs 0 2) bs)
+pub messages-next : (s : Sheet) (bs : List ℕ) → 0 < length bs → 0 < leAt bs 0 2 → messagesFrom s 0 bs ≡ msgAt s bs ∷ messagesFrom s 0 (drop (leAt bs 0 2) bs)
 unfolding messagesFrom
 messages-next s [] l p = absurd (omega arith)
 messages-next s (b ∷ bs) l p = ap (λ ms. msgAt s (b ∷ bs) ∷ ms) (messages-by s b bs (leAt (b ∷ bs) 0 2) p)
 
-messages-end : (s : Sheet) (bs : List ℕ) → length bs ≤ 0 → messagesFrom s 0 bs ≡ []
+pub messages-end : (s : Sheet) (bs : List ℕ) → length bs ≤ 0 → messagesFrom s 0 bs ≡ []
 unfolding messagesFrom
 messages-end s [] l = refl
 messages-end s (b ∷ bs) l = absurd (omega arith)

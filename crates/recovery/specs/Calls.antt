@@ -1,5 +1,5 @@
 -- Runs: the calls that a receiver gets one after the other, and what it shows after them.
-use mathlib.Core.Bool.{Bool, true, false, cond, not}
+use mathlib.Core.Bool.{Bool, true, false, cond}
 use mathlib.Core.List.{List, [], _∷_}
 use Prim.Native.Nat.{ℕ}
 use Rattle.packet.specs.Rules.{packetHead}
@@ -24,7 +24,7 @@ abbrev pub taken : Opening → Plain → Call → Bool
 taken o p (incremental room bytes) = whenTaken (incrementalAnswer o p room bytes) true false
 taken o p join = false
 taken o p (leave j) = false
-taken o p (snapshot j room bytes) = whenOk (snapshotCheck o p j room bytes) (not (again (p .followed) (packetHead bytes .version) (packetHead bytes .number))) false
+taken o p (snapshot j room bytes) = whenOk (snapshotCheck o p j room bytes) (cond (again (p .followed) (packetHead bytes .version) (packetHead bytes .number)) false true) false
 taken o p (question i) = false
 
 -- what is shown of an instrument: the sign, the packet that the book is of, and the book

@@ -11,5 +11,11 @@ pub mod Log
 pub mod Steps
 pub mod Calls
 pub mod Publisher
+pub mod Extents
 pub mod Reach
 pub mod Guarantee
+pub mod Present
+pub mod Latest
+pub mod Pattern
+pub mod Example
+pub mod Points

@@ -30,16 +30,16 @@ pub enum StreamFault {
 pub impl From<FrameFault> for StreamFault as StreamFromFrame {
     ghost converts = { λ e r. r ≡ Frame e };
 
-    fn from(e: FrameFault) -> StreamFault {
-        StreamFault::Frame(e)
+    fn from(fault: FrameFault) -> StreamFault {
+        StreamFault::Frame(fault)
     }
 }
 
 pub impl From<StoreFault> for StreamFault as StreamFromStore {
     ghost converts = { λ e r. r ≡ Store e };
 
-    fn from(e: StoreFault) -> StreamFault {
-        StreamFault::Store(e)
+    fn from(fault: StoreFault) -> StreamFault {
+        StreamFault::Store(fault)
     }
 }
 

@@ -1,3 +1,4 @@
 pub mod answers;
 pub mod fault;
+pub mod guarantee;
 pub mod marks;

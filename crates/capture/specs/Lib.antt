@@ -1,0 +1,10 @@
+pub mod Numbers
+pub mod Held
+pub mod Network
+pub mod Sent
+pub mod Header
+pub mod Records
+pub mod Joined
+pub mod Window
+pub mod Tally
+pub mod Walk

@@ -1,0 +1,10 @@
+pub mod Book
+pub mod Edits
+pub mod Staged
+pub mod Kind
+pub mod Image
+pub mod ImageLaw
+pub mod Rows
+pub mod Opening
+pub mod Model
+pub mod Shown

@@ -1,0 +1,4 @@
+pub mod Noting
+pub mod Putting
+pub mod Slots
+pub mod Listing

@@ -1,0 +1,12 @@
+pub mod Basics
+pub mod Course
+pub mod Way
+pub mod Books
+pub mod Kin
+pub mod Walks
+pub mod Tells
+pub mod Verdicts
+pub mod Runs
+pub mod Recovers
+pub mod Worked
+pub mod Presents

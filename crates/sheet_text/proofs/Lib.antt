@@ -1,0 +1,13 @@
+pub mod Cuts
+pub mod Rows
+pub mod Figures
+pub mod Searches
+pub mod Firsts
+pub mod Openings
+pub mod Missing
+pub mod Keeps
+pub mod Progress
+pub mod Layouts
+pub mod Builds
+pub mod Judges
+pub mod Honours

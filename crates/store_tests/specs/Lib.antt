@@ -1,0 +1,3 @@
+pub mod Tally
+pub mod TallyLaw
+pub mod Model

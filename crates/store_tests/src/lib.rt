@@ -1,0 +1,4 @@
+pub mod counts;
+pub mod tally;
+#[cfg(test)]
+mod walks;
