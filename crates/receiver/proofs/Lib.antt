@@ -1,3 +1,5 @@
 pub mod Settled
 pub mod Accepted
 pub mod Laying
+pub mod Adopting
+pub mod Telling

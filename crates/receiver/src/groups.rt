@@ -79,7 +79,7 @@ fn decide<S: Store>(plain: &mut Plain, store: &mut S, sub: &Subscription, shelf:
     ensures state { λ _. ⌜ stateIn (kind (setup (now (store .entry)))) (now (sub .entry)) (now (plain .exit)) (model (now (store .exit))) (now (shelf .entry)) ≡ decided (kind (setup (now (store .entry)))) (openingOf (now (sub .entry))) g (stateIn (kind (setup (now (store .entry)))) (now (sub .entry)) (now (plain .entry)) (model (now (store .entry))) (now (shelf .entry))) ⌝ }
     ensures log { λ r. ⌜ length (decidedLog (kind (setup (now (store .entry)))) (openingOf (now (sub .entry))) g (stateIn (kind (setup (now (store .entry)))) (now (sub .entry)) (now (plain .entry)) (model (now (store .entry))) (now (shelf .entry)))) ≡ bit r ⌝ }
     ensures closed { λ r. ⌜ (r ≡ true → now (plain .exit) .pending ≡ Closed) ⌝ }
-    ensures open { λ _. ⌜ (attended (watchOf (now (sub .entry) .watch)) (now (plain .entry) .pending) ≡ true → attended (watchOf (now (sub .entry) .watch)) (now (plain .exit) .pending) ≡ true) ⌝ }
+    ensures attends { λ _. ⌜ (attended (watchOf (now (sub .entry) .watch)) (now (plain .entry) .pending) ≡ true → attended (watchOf (now (sub .entry) .watch)) (now (plain .exit) .pending) ≡ true) ⌝ }
     ensures stays { λ _. ⌜ setup (now (store .exit)) ≡ setup (now (store .entry)) ⌝ }
 {
     if !store.whole() {
@@ -94,7 +94,7 @@ pub(crate) fn begin<S: Store>(plain: &mut Plain, store: &mut S, sub: &Subscripti
     requires { ⌜ 44800 ≤ length (now shelf) ⌝ }
     ensures state { λ _. ⌜ stateIn (kind (setup (now (store .entry)))) (now (sub .entry)) (now (plain .exit)) (model (now (store .exit))) (now (shelf .entry)) ≡ eventStep (kind (setup (now (store .entry)))) (openingOf (now (sub .entry))) (opens i h) (stateIn (kind (setup (now (store .entry)))) (now (sub .entry)) (now (plain .entry)) (model (now (store .entry))) (now (shelf .entry))) ⌝ }
     ensures log { λ r. ⌜ length (eventLog (kind (setup (now (store .entry)))) (openingOf (now (sub .entry))) (opens i h) (stateIn (kind (setup (now (store .entry)))) (now (sub .entry)) (now (plain .entry)) (model (now (store .entry))) (now (shelf .entry)))) ≡ bit r ⌝ }
-    ensures open { λ _. ⌜ attended (watchOf (now (sub .entry) .watch)) (now (plain .exit) .pending) ≡ true ⌝ }
+    ensures attends { λ _. ⌜ attended (watchOf (now (sub .entry) .watch)) (now (plain .exit) .pending) ≡ true ⌝ }
     ensures stays { λ _. ⌜ setup (now (store .exit)) ≡ setup (now (store .entry)) ⌝ }
 {
     if let Some(slot) = sub.watch.slot(i) {
@@ -114,7 +114,7 @@ pub(crate) fn grow<S: Store>(plain: &mut Plain, store: &mut S, sub: &Subscriptio
     ensures state { λ _. ⌜ stateIn (kind (setup (now (store .entry)))) (now (sub .entry)) (now (plain .exit)) (model (now (store .exit))) (now (shelf .entry)) ≡ eventStep (kind (setup (now (store .entry)))) (openingOf (now (sub .entry))) (adds i (pieceMeant (now (p .entry)))) (stateIn (kind (setup (now (store .entry)))) (now (sub .entry)) (now (plain .entry)) (model (now (store .entry))) (now (shelf .entry))) ⌝ }
     ensures log { λ r. ⌜ length (eventLog (kind (setup (now (store .entry)))) (openingOf (now (sub .entry))) (adds i (pieceMeant (now (p .entry)))) (stateIn (kind (setup (now (store .entry)))) (now (sub .entry)) (now (plain .entry)) (model (now (store .entry))) (now (shelf .entry)))) ≡ bit r ⌝ }
     ensures closed { λ r. ⌜ (r ≡ true → now (plain .exit) .pending ≡ Closed) ⌝ }
-    ensures open { λ _. ⌜ attended (watchOf (now (sub .entry) .watch)) (now (plain .exit) .pending) ≡ true ⌝ }
+    ensures attends { λ _. ⌜ attended (watchOf (now (sub .entry) .watch)) (now (plain .exit) .pending) ≡ true ⌝ }
     ensures stays { λ _. ⌜ setup (now (store .exit)) ≡ setup (now (store .entry)) ⌝ }
 {
     match plain.pending {

@@ -6,3 +6,4 @@ pub mod checks;
 pub mod renewal;
 pub mod calls;
 pub mod groups;
+pub mod messages;

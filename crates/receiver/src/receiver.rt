@@ -10,5 +10,5 @@ use crate::subscription::Subscription;
 pub struct Receiver {
     pub(crate) sub: Subscription,
     pub(crate) plain: Plain,
-    ghost open: { attended (watchOf (sub .watch)) (plain .pending) ≡ true },
+    ghost attends: { attended (watchOf (sub .watch)) (plain .pending) ≡ true },
 }
