@@ -1,0 +1,4 @@
+pub mod call;
+pub mod desk;
+pub mod joins;
+// pub mod performing;
