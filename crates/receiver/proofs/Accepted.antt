@@ -36,7 +36,6 @@ pub framed-ok : (r : Result (Unit {0}) FrameFault) (x : Unit {0}) → framed r �
 framed-ok (Ok x) y e = refl
 framed-ok (Err x) y e = let z : _≡_ {A = ℕ} 0 1 = cc in absurd (omega arith)
 
-
 -- a packet has at most 1,400 bytes
 pub short : (sheet : Sheet) (bytes : List ℕ) → isOk (packetCheck sheet bytes) ≡ true → length bytes ≤ 1400
 short sheet bytes e = by-test (ltb (length bytes) 16 || ltb 1400 (length bytes))
@@ -66,9 +65,12 @@ accepted o heard numbers room bytes y e =
     let g = and-ok (refuses (eqb (h .number) 0) _) _ (a .0) (d .2) in
     let p = eqb-false (h .number) 0 (refuses-ok (eqb (h .number) 0) _ _ (g .1)) in
     record {
-      long = f .0; whole = f .1; small = short (o .sheet) bytes (f .1);
+      long = f .0;
+      whole = f .1;
+      small = short (o .sheet) bytes (f .1);
       counted = omega arith;
-      near = leb-false (h .number + 32) heard (refuses-ok (leb (h .number + 32) heard) _ _ (g .2)) }
+      near = leb-false (h .number + 32) heard (refuses-ok (leb (h .number + 32) heard) _ _ (g .2));
+    }
 
 -- what lies on the shelf is there
 there : (sheet : Sheet) (heard : ℕ) (numbers lengths bytes : List ℕ) (k : ℕ) → isThere (shelfOf sheet heard numbers lengths bytes k) ≡ shelved heard numbers k

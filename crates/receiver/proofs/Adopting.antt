@@ -48,8 +48,8 @@ keeps : (sheet : Sheet) (heard n h : ℕ) (numbers lengths bytes : List ℕ) →
 keeps sheet heard n h numbers lengths bytes e k = grind (arith, tells)
 
 module _ {V O : Type 0} (K : Kind V O) (u : Subscription) (p p′ : Plain) (m m′ : Model V O) (bytes : List ℕ) (slot : ℕ) (g : Group)
-  (is : slot ≡ slotIn (watchOf (u .watch)) (g .security)) (lt : slot < length (p .marks .at)) (busy : idle (getD (p .marks .at) slot Stale) (g .last) (p .places .heard) ≡ false)
-  (ok : Ok tt ≡ adoptAnswer K m slot) where
+    (is : slot ≡ slotIn (watchOf (u .watch)) (g .security)) (lt : slot < length (p .marks .at)) (busy : idle (getD (p .marks .at) slot Stale) (g .last) (p .places .heard) ≡ false)
+    (ok : Ok tt ≡ adoptAnswer K m slot) where
   fit : (hasSlot K m slot ≡ true) × (isWhole K m ≡ true)
   fit = ok-both (hasSlot K m slot) (isWhole K m) (Slot slot) ok
 
@@ -57,8 +57,8 @@ module _ {V O : Type 0} (K : Kind V O) (u : Subscription) (p p′ : Plain) (m m�
   wants = sym (ap (λ z. ltb z (length (m .slots)) && not (idle (getD (p .marks .at) z Stale) (g .last) (p .places .heard))) (sym is) ∙ rw (fit .0, busy))
 
   module _ (after : m′ ≡ storeAdopted K m slot) (marks : p′ .marks .at ≡ set (p .marks .at) slot (comes (Whole (g .last) (p .places .heard)) (getD (p .marks .at) slot Stale)))
-    (heard : p′ .places .heard ≡ max (p .places .heard) (g .last)) (numbers : p′ .places .numbers ≡ p .places .numbers) (lengths : p′ .places .lengths ≡ p .places .lengths)
-    (joined : p′ .joined ≡ p .joined) (followed : p′ .followed ≡ p .followed) (pending : p′ .pending ≡ p .pending) where
+      (heard : p′ .places .heard ≡ max (p .places .heard) (g .last)) (numbers : p′ .places .numbers ≡ p .places .numbers) (lengths : p′ .places .lengths ≡ p .places .lengths)
+      (joined : p′ .joined ≡ p .joined) (followed : p′ .followed ≡ p .followed) (pending : p′ .pending ≡ p .pending) where
     shelf-is : (k : ℕ) → shelfOf (u .sheet) (p′ .places .heard) (p′ .places .numbers) (p′ .places .lengths) bytes k ≡ kept (max (p .places .heard) (g .last)) (shelfOf (u .sheet) (p .places .heard) (p .places .numbers) (p .places .lengths) bytes) k
     shelf-is k = (λ j. shelfOf (u .sheet) (heard j) (numbers j) (lengths j) bytes k) ∙ keeps (u .sheet) (p .places .heard) (g .last) (max (p .places .heard) (g .last)) (p .places .numbers) (p .places .lengths) bytes refl k
 
@@ -70,9 +70,9 @@ module _ {V O : Type 0} (K : Kind V O) (u : Subscription) (p p′ : Plain) (m m�
 
     puts-is : Puts K slot (book (AsOf (g .last)) (m .staged)) (p .marks .at) m (p′ .marks .at) m′
     puts-is = puts K (p .marks .at) m slot _ (AsOf (g .last)) (m .staged) (p′ .marks .at) m′ refl
-      (λ q. ap (λ z. getD z q Stale) (marks ∙ ap (set (p .marks .at) slot) (comes-adopts (getD (p .marks .at) slot Stale) (g .last) (p .places .heard) busy)) ∙ set-at (p .marks .at) slot (AsOf (g .last)) Stale lt q)
-      (λ q. ap (λ z. valueAt K z q) wrote-is ∙ wrote K (p .marks .at) m slot (m .staged) (ltb-true slot (length (m .slots)) (fit .0)) q)
-      (stays K (p .marks .at) m slot (m .staged) ∙ ap (restOf K) (sym wrote-is))
+        (λ q. ap (λ z. getD z q Stale) (marks ∙ ap (set (p .marks .at) slot) (comes-adopts (getD (p .marks .at) slot Stale) (g .last) (p .places .heard) busy)) ∙ set-at (p .marks .at) slot (AsOf (g .last)) Stale lt q)
+        (λ q. ap (λ z. valueAt K z q) wrote-is ∙ wrote K (p .marks .at) m slot (m .staged) (ltb-true slot (length (m .slots)) (fit .0)) q)
+        (stays K (p .marks .at) m slot (m .staged) ∙ ap (restOf K) (sym wrote-is))
 
     books-is : (q : ℕ) → bookAt K (p′ .marks .at) m′ q ≡ cond (eqb q (slotOf (openingOf u) (g .security))) (book (AsOf (g .last)) (m .staged)) (bookAt K (p .marks .at) m q)
     books-is q = puts-is .books q ∙ ap (λ z. cond (eqb q z) (book (AsOf (g .last)) (m .staged)) (bookAt K (p .marks .at) m q)) is
@@ -81,8 +81,8 @@ module _ {V O : Type 0} (K : Kind V O) (u : Subscription) (p p′ : Plain) (m m�
     state-is = λ j. record { plain = plain-is j; books = λ q. books-is q j; rest = sym (puts-is .rest) j }
 
     pub adopts : (K′ : Kind V O) (p″ : Plain) (m″ : Model V O) → K′ ≡ K → stateIn K′ u p″ m″ bytes ≡ settled K′ (openingOf u) (stateIn K′ u p′ m′ bytes)
-      → stateIn K u p″ m″ bytes ≡ cond (wanted K (openingOf u) g (stateIn K u p m bytes)) (adopted K (openingOf u) g (stateIn K u p m bytes)) (stateIn K u p m bytes)
+        → stateIn K u p″ m″ bytes ≡ cond (wanted K (openingOf u) g (stateIn K u p m bytes)) (adopted K (openingOf u) g (stateIn K u p m bytes)) (stateIn K u p m bytes)
     adopts K′ p″ m″ same e =
-      subst (λ z. stateIn z u p″ m″ bytes ≡ settled z (openingOf u) (stateIn z u p′ m′ bytes)) same e
-      ∙ ap (settled K (openingOf u)) state-is
-      ∙ ap (λ b. cond b (adopted K (openingOf u) g (stateIn K u p m bytes)) (stateIn K u p m bytes)) wants
+        subst (λ z. stateIn z u p″ m″ bytes ≡ settled z (openingOf u) (stateIn z u p′ m′ bytes)) same e
+        ∙ ap (settled K (openingOf u)) state-is
+        ∙ ap (λ b. cond b (adopted K (openingOf u) g (stateIn K u p m bytes)) (stateIn K u p m bytes)) wants

@@ -3,3 +3,4 @@ pub mod Accepted
 pub mod Laying
 pub mod Adopting
 pub mod Telling
+pub mod Fresh

@@ -20,6 +20,6 @@ module _ {V O : Type 0} (K : Kind V O) (o : Opening) (p : Plain) (ms ms′ : Lis
     where
       point : (q : ℕ) → bookAt K ms′ s′ q ≡ cond (ltb q (length (o .watch))) (settle (kindIn K s q) (p .heard) (p .shelf) (getD (o .watch) q 0) (bookAt K ms s q)) (bookAt K ms s q)
       point q = ⊎-elim
-        (λ (l : q < length (o .watch)). rw (lt-ltb q (length (o .watch)) l) (sym (e .books q l)))
-        (λ (l : length (o .watch) ≤ q). rw (le-ltb q (length (o .watch)) l) (sym (e .others q l)))
-        (cases-lt q (length (o .watch)))
+          (λ (l : q < length (o .watch)). rw (lt-ltb q (length (o .watch)) l) (sym (e .books q l)))
+          (λ (l : length (o .watch) ≤ q). rw (le-ltb q (length (o .watch)) l) (sym (e .others q l)))
+          (cases-lt q (length (o .watch)))

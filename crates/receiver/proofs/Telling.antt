@@ -67,10 +67,10 @@ module _ {V O : Type 0} (K : Kind V O) (o : Opening) where
   closed-logs : (i : ℕ) (l : EntriesLayout) (es : List (List ℕ)) (s : State V O) → s .plain .pending ≡ Closed → length (eventLogs K o (entriesFor i l es) s) ≡ 0
   closed-logs i l [] s e = logs-none s
   closed-logs i l (x ∷ es) s e =
-    let a = logs-next (adds i (orTorn entry (entryFields l x))) (entriesFor i l es) s in
-    let b = log-closed i (orTorn entry (entryFields l x)) s e in
-    let c = ap (λ z. length (eventLogs K o (entriesFor i l es) z)) (step-closed i (orTorn entry (entryFields l x)) s e) ∙ closed-logs i l es s e in
-    a ∙ ap (λ n. n + length (eventLogs K o (entriesFor i l es) (eventStep K o (adds i (orTorn entry (entryFields l x))) s))) b ∙ ap (λ n. 0 + n) c
+      let a = logs-next (adds i (orTorn entry (entryFields l x))) (entriesFor i l es) s in
+      let b = log-closed i (orTorn entry (entryFields l x)) s e in
+      let c = ap (λ z. length (eventLogs K o (entriesFor i l es) z)) (step-closed i (orTorn entry (entryFields l x)) s e) ∙ closed-logs i l es s e in
+      a ∙ ap (λ n. n + length (eventLogs K o (entriesFor i l es) (eventStep K o (adds i (orTorn entry (entryFields l x))) s))) b ∙ ap (λ n. 0 + n) c
 
   -- as much is to come of these entries as there was, and none was adopted yet
   pub record ToCome (i : ℕ) (l : EntriesLayout) (es₀ es : List (List ℕ)) (s₀ s : State V O) : Type 0 where
@@ -81,27 +81,28 @@ module _ {V O : Type 0} (K : Kind V O) (o : Opening) where
   come-start i l es s = record { steps = refl; logs = refl }
 
   module _ (i : ℕ) (l : EntriesLayout) (es₀ es es′ : List (List ℕ)) (x : List ℕ) (s₀ s s′ : State V O) (inv : ToCome i l es₀ es s₀ s) (is : es ≡ x ∷ es′)
-    (step : s′ ≡ eventStep K o (adds i (orTorn entry (entryFields l x))) s) where
+      (step : s′ ≡ eventStep K o (adds i (orTorn entry (entryFields l x))) s) where
     next-steps : eventSteps K o (entriesFor i l es) s ≡ eventSteps K o (entriesFor i l es′) s′
     next-steps = ap (λ z. eventSteps K o (entriesFor i l z) s) is ∙ steps-next _ (entriesFor i l es′) s ∙ ap (eventSteps K o (entriesFor i l es′)) (sym step)
 
     next-logs : (r : Bool) → length (eventLog K o (adds i (orTorn entry (entryFields l x))) s) ≡ bit r → length (eventLogs K o (entriesFor i l es) s) ≡ bit r + length (eventLogs K o (entriesFor i l es′) s′)
     next-logs r e = ap (λ z. length (eventLogs K o (entriesFor i l z) s)) is ∙ logs-next _ (entriesFor i l es′) s
-      ∙ ap (λ n. n + length (eventLogs K o (entriesFor i l es′) (eventStep K o (adds i (orTorn entry (entryFields l x))) s))) e ∙ ap (λ z. bit r + length (eventLogs K o (entriesFor i l es′) z)) (sym step)
+        ∙ ap (λ n. n + length (eventLogs K o (entriesFor i l es′) (eventStep K o (adds i (orTorn entry (entryFields l x))) s))) e ∙ ap (λ z. bit r + length (eventLogs K o (entriesFor i l es′) z)) (sym step)
 
     pub come-next : (r : Bool) → length (eventLog K o (adds i (orTorn entry (entryFields l x))) s) ≡ bit r → r ≡ false → ToCome i l es₀ es′ s₀ s′
     come-next r e f = record { steps = inv .steps ∙ next-steps; logs = let a = inv .logs in let b = next-logs r e in let c = ap bit f in omega arith }
 
     pub come-adopted : (r : Bool) → length (eventLog K o (adds i (orTorn entry (entryFields l x))) s) ≡ bit r → r ≡ true → s′ .plain .pending ≡ Closed
-      → (s′ ≡ eventSteps K o (entriesFor i l es₀) s₀) × (length (eventLogs K o (entriesFor i l es₀) s₀) ≡ 1)
-    come-adopted r e f shut =
-      (sym (inv .steps ∙ next-steps ∙ closed-steps i l es′ s′ shut),
-      (let a = inv .logs in let b = next-logs r e in let c = ap bit f in let d = closed-logs i l es′ s′ shut in omega arith))
+        → (s′ ≡ eventSteps K o (entriesFor i l es₀) s₀) × (length (eventLogs K o (entriesFor i l es₀) s₀) ≡ 1)
+    come-adopted r e f shut = (
+      sym (inv .steps ∙ next-steps ∙ closed-steps i l es′ s′ shut),
+      (let a = inv .logs in let b = next-logs r e in let c = ap bit f in let d = closed-logs i l es′ s′ shut in omega arith),
+    )
 
   pub come-end : (i : ℕ) (l : EntriesLayout) (es₀ es : List (List ℕ)) (s₀ s : State V O) → ToCome i l es₀ es s₀ s → es ≡ []
-    → (s ≡ eventSteps K o (entriesFor i l es₀) s₀) × (length (eventLogs K o (entriesFor i l es₀) s₀) ≡ 0)
+      → (s ≡ eventSteps K o (entriesFor i l es₀) s₀) × (length (eventLogs K o (entriesFor i l es₀) s₀) ≡ 0)
   come-end i l es₀ es s₀ s inv e =
-    (sym (inv .steps ∙ ap (λ z. eventSteps K o (entriesFor i l z) s) e ∙ steps-none s), inv .logs ∙ ap (λ z. length (eventLogs K o (entriesFor i l z) s)) e ∙ logs-none s)
+      (sym (inv .steps ∙ ap (λ z. eventSteps K o (entriesFor i l z) s) e ∙ steps-none s), inv .logs ∙ ap (λ z. length (eventLogs K o (entriesFor i l z) s)) e ∙ logs-none s)
 
   messages-next : (m : Msg) (ms : List Msg) (s : State V O) → messageSteps K o (m ∷ ms) s ≡ messageSteps K o ms (eventSteps K o (told m) s)
   unfolding messageSteps
@@ -129,22 +130,24 @@ module _ {V O : Type 0} (K : Kind V O) (o : Opening) where
   ahead-start ms s l = record { steps = refl; logs = omega arith; room = omega arith }
 
   pub ahead-next : (n : ℕ) (r : Bool) (ms₀ ms ms′ : List Msg) (m : Msg) (s₀ s s′ : State V O) → Ahead n ms₀ ms s₀ s → ms ≡ m ∷ ms′ → s′ ≡ eventSteps K o (told m) s → length (eventLogs K o (told m) s) ≡ bit r
-    → (k : ℕ) → k ≡ n + bit r → Ahead k ms₀ ms′ s₀ s′
+      → (k : ℕ) → k ≡ n + bit r → Ahead k ms₀ ms′ s₀ s′
   ahead-next n r ms₀ ms ms′ m s₀ s s′ inv is step log k e =
-    let a = ap (λ z. length (messageLogs K o z s)) is ∙ told-next m ms′ s ∙ ap (λ z. length (eventLogs K o (told m) s) + length (messageLogs K o ms′ z)) (sym step) in
-    let b = inv .logs in let c = inv .room in let d = ap length is in let f = at-most-one r in record {
-    steps = inv .steps ∙ ap (λ z. messageSteps K o z s) is ∙ messages-next m ms′ s ∙ ap (messageSteps K o ms′) (sym step);
-    logs = omega arith;
-    room = omega arith }
+      let a = ap (λ z. length (messageLogs K o z s)) is ∙ told-next m ms′ s ∙ ap (λ z. length (eventLogs K o (told m) s) + length (messageLogs K o ms′ z)) (sym step) in
+      let b = inv .logs in let c = inv .room in let d = ap length is in let f = at-most-one r in record {
+        steps = inv .steps ∙ ap (λ z. messageSteps K o z s) is ∙ messages-next m ms′ s ∙ ap (messageSteps K o ms′) (sym step);
+        logs = omega arith;
+        room = omega arith;
+      }
     where
       at-most-one : (b : Bool) → bit b ≤ 1
       at-most-one true = omega arith
       at-most-one false = omega arith
 
   pub ahead-end : (n : ℕ) (ms₀ ms : List Msg) (s₀ s : State V O) → Ahead n ms₀ ms s₀ s → ms ≡ [] → (s ≡ messageSteps K o ms₀ s₀) × (length (messageLogs K o ms₀ s₀) ≡ n)
-  ahead-end n ms₀ ms s₀ s inv e =
-    (sym (inv .steps ∙ ap (λ z. messageSteps K o z s) e ∙ messages-none s),
-    (let a = inv .logs in let b = ap (λ z. length (messageLogs K o z s)) e ∙ told-none s in omega arith))
+  ahead-end n ms₀ ms s₀ s inv e = (
+    sym (inv .steps ∙ ap (λ z. messageSteps K o z s) e ∙ messages-none s),
+    (let a = inv .logs in let b = ap (λ z. length (messageLogs K o z s)) e ∙ told-none s in omega arith),
+  )
 
   -- a message that is read for nothing
   pub nothing : (m : Msg) (s : State V O) → told m ≡ [] → (s ≡ eventSteps K o (told m) s) × (length (eventLogs K o (told m) s) ≡ 0)

@@ -1,3 +1,4 @@
 pub mod Standings
 pub mod Judged
 pub mod Joins
+pub mod Notes

@@ -25,17 +25,34 @@ fn standing(heard: u64, mark: Mark) -> Standing
     ensures { λ r. ⌜ r ≡ standing heard mark ⌝ }
 {
     match mark {
-        Mark::Stale => Standing { sign: Sign::Stale, number: 0, heard },
+        Mark::Stale => Standing {
+            sign: Sign::Stale,
+            number: 0,
+            heard,
+        },
         Mark::AsOf(n) => {
-            let sign = if n == heard { Sign::Current } else { Sign::Recovering };
-            Standing { sign, number: n, heard }
+            let sign = if n == heard {
+                Sign::Current
+            } else {
+                Sign::Recovering
+            };
+            Standing {
+                sign,
+                number: n,
+                heard,
+            }
         }
     }
 }
 
 impl Receiver {
     // Takes an incremental packet: it is laid on the shelf, and all watched books settle.
-    pub fn incremental<S: Store>(&mut self, store: &mut S, shelf: &mut [u8], bytes: &[u8]) -> Result<Incremental, StreamFault>
+    pub fn incremental<S: Store>(
+        &mut self,
+        store: &mut S,
+        shelf: &mut [u8],
+        bytes: &[u8],
+    ) -> Result<Incremental, StreamFault>
         ensures answer { λ r. ⌜ r ≡ incrementalAnswer (openingOf (now (self .entry) .sub)) (plainOf (now (self .entry) .sub .sheet) (now (self .entry) .plain) (now (shelf .entry))) (length (now (shelf .entry))) (now (bytes .entry)) ⌝ }
         ensures shelf { λ _. ⌜ now (shelf .exit) ≡ shelfAfter (openingOf (now (self .entry) .sub)) (plainOf (now (self .entry) .sub .sheet) (now (self .entry) .plain) (now (shelf .entry))) (now (bytes .entry)) (now (shelf .entry)) ⌝ }
         ensures state { λ _. ⌜ stateIn (kind (setup (now (store .entry)))) (now (self .entry) .sub) (now (self .exit) .plain) (model (now (store .exit))) (now (shelf .exit)) ≡ incrementalStep (kind (setup (now (store .entry)))) (openingOf (now (self .entry) .sub)) (length (now (shelf .entry))) (now (bytes .entry)) (stateIn (kind (setup (now (store .entry)))) (now (self .entry) .sub) (now (self .entry) .plain) (model (now (store .entry))) (now (shelf .entry))) ⌝ }

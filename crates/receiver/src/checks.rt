@@ -3,13 +3,17 @@ ghost use mathlib.Core.Bool.{true, not, _&&_};
 ghost use lib.Dec.{eqb};
 ghost use Rattle.recovery.specs.declared.fault.StreamFault.the-variants.{Join};
 ghost use lib.ListN.{length};
-ghost use Rattle.std.specs.Results.{isOk};
+ghost use mathlib.Core.List.{[]};
+ghost use Rattle.std.specs.Results.{Cases, isOk};
+ghost use Rattle.std.specs.declared.result.Result.the-variants.{Ok, Err};
 ghost use Rattle.packet.specs.Rules.{packetCheck, packetHead};
-ghost use Rattle.recovery.specs.Answers.{refuses, lawfulVersion, openingCheck, shelfCheck, bytesCheck, incrementalRules, snapshotRules, again, isNext};
-ghost use Rattle.receiver.specs.Standings.{openingOf};
+ghost use Rattle.recovery.specs.Answers.{refuses, lawfulVersion, openingCheck, shelfCheck, bytesCheck, incrementalRules, snapshotRules, snapshotCheck, again, isNext};
+ghost use Rattle.receiver.specs.Standings.{openingOf, plainOf};
 ghost use Rattle.receiver.specs.Judged.{judged};
+ghost use Rattle.receiver.specs.Notes.{notedPlain};
 use crate::plain::Plain;
 use crate::subscription::Subscription;
+use layout::sheet::Sheet;
 use packet::checked::Checked;
 use packet::head::PacketHead;
 use packet::rules::check;
@@ -17,8 +21,8 @@ use recovery::answers::Incremental;
 use recovery::fault::StreamFault;
 use recovery::fault::StreamFromFrame;
 use recovery::marks::Followed;
+use recovery::marks::Pending;
 use settling::slots::all_different;
-use layout::sheet::Sheet;
 
 fn lawful_version(version: u16) -> bool
     ensures { λ r. ⌜ r ≡ lawfulVersion version ⌝ }
@@ -112,8 +116,30 @@ impl Subscription {
         Ok(())
     }
 
+    // The header of a snapshot packet that a call may bring under this join.
+    pub(crate) fn admit(
+        &self,
+        plain: &Plain,
+        own: u64,
+        room: usize,
+        bytes: &[u8],
+    ) -> Result<PacketHead, StreamFault>
+        ensures { λ r. ⌜ Cases r (λ h. (snapshotCheck (openingOf (now (self .entry))) (plainOf (now (self .entry) .sheet) (now (plain .entry)) []) own room (now (bytes .entry)) ≡ Ok tt) × (h ≡ packetHead (now (bytes .entry)))) (λ e. snapshotCheck (openingOf (now (self .entry))) (plainOf (now (self .entry) .sheet) (now (plain .entry)) []) own room (now (bytes .entry)) ≡ Err e) ⌝ }
+    {
+        self.join_check(plain.joined, own)?;
+        self.bytes_check(room, bytes)?;
+        let h = head_of(&self.sheet, bytes);
+        self.snapshot_rules(h)?;
+        Ok(h)
+    }
+
     // What becomes of an incremental packet.
-    pub(crate) fn judge(&self, plain: &Plain, room: usize, bytes: &[u8]) -> Result<Incremental, StreamFault>
+    pub(crate) fn judge(
+        &self,
+        plain: &Plain,
+        room: usize,
+        bytes: &[u8],
+    ) -> Result<Incremental, StreamFault>
         ensures { λ r. ⌜ r ≡ judged (openingOf (now (self .entry))) (now (plain .entry) .places .heard) (now (plain .entry) .places .numbers) room (now (bytes .entry)) ⌝ }
     {
         self.bytes_check(room, bytes)?;
@@ -137,13 +163,24 @@ impl Plain {
         }
     }
 
+    // Notes a snapshot packet, which closes the open group unless it is the one that is due.
+    pub(crate) fn note(&mut self, h: PacketHead)
+        ensures { λ _. ⌜ now (self .exit) ≡ notedPlain h (now (self .entry)) ⌝ }
+    {
+        if !self.is_next(h.version, h.number) {
+            self.pending = Pending::Closed;
+        }
+        self.followed = Followed::Upto(h.version, h.number);
+    }
+
     // Whether packet s of the loop l is the one that is due.
-    pub(crate) fn is_next(&self, l: u16, s: u32) -> bool
+    fn is_next(&self, l: u16, s: u32) -> bool
         ensures { λ r. ⌜ r ≡ isNext (now (self .entry) .followed) l s ⌝ }
     {
         match self.followed {
             Followed::Nothing => false,
-            Followed::Upto(loop_number, last) => l == loop_number && u64::from(s) == u64::from(last) + 1,
+            Followed::Upto(loop_number, last) => l == loop_number
+                && u64::from(s) == u64::from(last) + 1,
         }
     }
 }

@@ -53,7 +53,14 @@ impl Plain {
 }
 
 // Adopts a whole group, unless nothing happens to it: the staged value becomes the book, and all settle.
-fn adopt<S: Store>(plain: &mut Plain, store: &mut S, sub: &Subscription, shelf: &[u8], slot: usize, g: Group) -> bool
+fn adopt<S: Store>(
+    plain: &mut Plain,
+    store: &mut S,
+    sub: &Subscription,
+    shelf: &[u8],
+    slot: usize,
+    g: Group,
+) -> bool
     requires { ⌜ slot ≡ slotIn (watchOf (now sub .watch)) (g .security) ⌝ ∗ ⌜ slot < length (watchOf (now sub .watch)) ⌝ ∗ ⌜ 44800 ≤ length (now shelf) ⌝ ∗ ⌜ isWhole (kind (setup (now store))) (model (now store)) ≡ true ⌝ }
     ensures answer { λ r. ⌜ r ≡ wanted (kind (setup (now (store .entry)))) (openingOf (now (sub .entry))) g (stateIn (kind (setup (now (store .entry)))) (now (sub .entry)) (now (plain .entry)) (model (now (store .entry))) (now (shelf .entry))) ⌝ }
     ensures state { λ _. ⌜ stateIn (kind (setup (now (store .entry)))) (now (sub .entry)) (now (plain .exit)) (model (now (store .exit))) (now (shelf .entry)) ≡ cond (wanted (kind (setup (now (store .entry)))) (openingOf (now (sub .entry))) g (stateIn (kind (setup (now (store .entry)))) (now (sub .entry)) (now (plain .entry)) (model (now (store .entry))) (now (shelf .entry)))) (adopted (kind (setup (now (store .entry)))) (openingOf (now (sub .entry))) g (stateIn (kind (setup (now (store .entry)))) (now (sub .entry)) (now (plain .entry)) (model (now (store .entry))) (now (shelf .entry)))) (stateIn (kind (setup (now (store .entry)))) (now (sub .entry)) (now (plain .entry)) (model (now (store .entry))) (now (shelf .entry))) ⌝ }
@@ -74,7 +81,14 @@ fn adopt<S: Store>(plain: &mut Plain, store: &mut S, sub: &Subscription, shelf: 
 }
 
 // Closes and decides a group, once nothing is owed to it; whether it was adopted.
-fn decide<S: Store>(plain: &mut Plain, store: &mut S, sub: &Subscription, shelf: &[u8], slot: usize, g: Group) -> bool
+fn decide<S: Store>(
+    plain: &mut Plain,
+    store: &mut S,
+    sub: &Subscription,
+    shelf: &[u8],
+    slot: usize,
+    g: Group,
+) -> bool
     requires { ⌜ slot ≡ slotIn (watchOf (now sub .watch)) (g .security) ⌝ ∗ ⌜ slot < length (watchOf (now sub .watch)) ⌝ ∗ ⌜ 44800 ≤ length (now shelf) ⌝ }
     ensures state { λ _. ⌜ stateIn (kind (setup (now (store .entry)))) (now (sub .entry)) (now (plain .exit)) (model (now (store .exit))) (now (shelf .entry)) ≡ decided (kind (setup (now (store .entry)))) (openingOf (now (sub .entry))) g (stateIn (kind (setup (now (store .entry)))) (now (sub .entry)) (now (plain .entry)) (model (now (store .entry))) (now (shelf .entry))) ⌝ }
     ensures log { λ r. ⌜ length (decidedLog (kind (setup (now (store .entry)))) (openingOf (now (sub .entry))) g (stateIn (kind (setup (now (store .entry)))) (now (sub .entry)) (now (plain .entry)) (model (now (store .entry))) (now (shelf .entry)))) ≡ bit r ⌝ }
@@ -90,7 +104,14 @@ fn decide<S: Store>(plain: &mut Plain, store: &mut S, sub: &Subscription, shelf:
 }
 
 // A header of an instrument closes the open group, and opens one where the instrument is watched and the store can hold it.
-pub(crate) fn begin<S: Store>(plain: &mut Plain, store: &mut S, sub: &Subscription, shelf: &[u8], i: u64, h: HeaderFields) -> bool
+pub(crate) fn begin<S: Store>(
+    plain: &mut Plain,
+    store: &mut S,
+    sub: &Subscription,
+    shelf: &[u8],
+    i: u64,
+    h: HeaderFields,
+) -> bool
     requires { ⌜ 44800 ≤ length (now shelf) ⌝ }
     ensures state { λ _. ⌜ stateIn (kind (setup (now (store .entry)))) (now (sub .entry)) (now (plain .exit)) (model (now (store .exit))) (now (shelf .entry)) ≡ eventStep (kind (setup (now (store .entry)))) (openingOf (now (sub .entry))) (opens i h) (stateIn (kind (setup (now (store .entry)))) (now (sub .entry)) (now (plain .entry)) (model (now (store .entry))) (now (shelf .entry))) ⌝ }
     ensures log { λ r. ⌜ length (eventLog (kind (setup (now (store .entry)))) (openingOf (now (sub .entry))) (opens i h) (stateIn (kind (setup (now (store .entry)))) (now (sub .entry)) (now (plain .entry)) (model (now (store .entry))) (now (shelf .entry)))) ≡ bit r ⌝ }
@@ -99,7 +120,10 @@ pub(crate) fn begin<S: Store>(plain: &mut Plain, store: &mut S, sub: &Subscripti
 {
     if let Some(slot) = sub.watch.slot(i) {
         if let Ok(()) = store.stage(&h) {
-            let g = Group { security: i, last: h.last };
+            let g = Group {
+                security: i,
+                last: h.last,
+            };
             plain.pending = Pending::Open(g);
             return decide(plain, store, sub, shelf, slot, g);
         }
@@ -109,7 +133,14 @@ pub(crate) fn begin<S: Store>(plain: &mut Plain, store: &mut S, sub: &Subscripti
 }
 
 // A piece of an instrument is added to the open group if it is that instrument's; one that does not fit closes the group.
-pub(crate) fn grow<S: Store>(plain: &mut Plain, store: &mut S, sub: &Subscription, shelf: &[u8], i: u64, p: &Piece) -> bool
+pub(crate) fn grow<S: Store>(
+    plain: &mut Plain,
+    store: &mut S,
+    sub: &Subscription,
+    shelf: &[u8],
+    i: u64,
+    p: &Piece,
+) -> bool
     requires { ⌜ 44800 ≤ length (now shelf) ⌝ ∗ ⌜ attended (watchOf (now sub .watch)) (now plain .pending) ≡ true ⌝ }
     ensures state { λ _. ⌜ stateIn (kind (setup (now (store .entry)))) (now (sub .entry)) (now (plain .exit)) (model (now (store .exit))) (now (shelf .entry)) ≡ eventStep (kind (setup (now (store .entry)))) (openingOf (now (sub .entry))) (adds i (pieceMeant (now (p .entry)))) (stateIn (kind (setup (now (store .entry)))) (now (sub .entry)) (now (plain .entry)) (model (now (store .entry))) (now (shelf .entry))) ⌝ }
     ensures log { λ r. ⌜ length (eventLog (kind (setup (now (store .entry)))) (openingOf (now (sub .entry))) (adds i (pieceMeant (now (p .entry)))) (stateIn (kind (setup (now (store .entry)))) (now (sub .entry)) (now (plain .entry)) (model (now (store .entry))) (now (shelf .entry)))) ≡ bit r ⌝ }

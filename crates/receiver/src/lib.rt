@@ -1,9 +1,11 @@
-pub mod subscription;
-pub mod plain;
-pub mod join;
-pub mod receiver;
-pub mod checks;
-pub mod renewal;
 pub mod calls;
+pub mod checks;
 pub mod groups;
+pub mod join;
 pub mod messages;
+pub mod opening;
+pub mod plain;
+pub mod receiver;
+pub mod renewal;
+pub mod snapshot;
+pub mod subscription;

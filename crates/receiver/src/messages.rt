@@ -3,7 +3,8 @@ ghost use mathlib.Core.Bool.{true};
 ghost use Prim.Native.Nat.{_≤_};
 ghost use lib.ListN.{length};
 ghost use Rattle.packet.specs.Meaning.{entryParts};
-ghost use Rattle.packet.specs.Rules.{messages};
+ghost use Rattle.std.specs.Results.{isOk};
+ghost use Rattle.packet.specs.Rules.{messages, packetCheck};
 ghost use Rattle.packet.specs.Views.{view};
 ghost use Rattle.recovery.specs.Reading.{opensFor, entriesFor, told};
 ghost use Rattle.recovery.specs.Groups.{eventSteps, messageSteps};
@@ -26,7 +27,14 @@ use recovery::marks::Pending;
 use store::store::Store;
 
 // A header, of which an instrument or the fields may be missing; whether its group was adopted.
-fn open_group<S: Store>(plain: &mut Plain, store: &mut S, sub: &Subscription, shelf: &[u8], i: Option<u64>, h: Option<HeaderFields>) -> bool
+fn open_group<S: Store>(
+    plain: &mut Plain,
+    store: &mut S,
+    sub: &Subscription,
+    shelf: &[u8],
+    i: Option<u64>,
+    h: Option<HeaderFields>,
+) -> bool
     requires { ⌜ 44800 ≤ length (now shelf) ⌝ }
     ensures state { λ _. ⌜ stateIn (kind (setup (now (store .entry)))) (now (sub .entry)) (now (plain .exit)) (model (now (store .exit))) (now (shelf .entry)) ≡ eventSteps (kind (setup (now (store .entry)))) (openingOf (now (sub .entry))) (opensFor i h) (stateIn (kind (setup (now (store .entry)))) (now (sub .entry)) (now (plain .entry)) (model (now (store .entry))) (now (shelf .entry))) ⌝ }
     ensures log { λ r. ⌜ length (eventLogs (kind (setup (now (store .entry)))) (openingOf (now (sub .entry))) (opensFor i h) (stateIn (kind (setup (now (store .entry)))) (now (sub .entry)) (now (plain .entry)) (model (now (store .entry))) (now (shelf .entry)))) ≡ bit r ⌝ }
@@ -49,7 +57,15 @@ fn open_group<S: Store>(plain: &mut Plain, store: &mut S, sub: &Subscription, sh
 }
 
 // The entries of a message, one by one, until the group is adopted; whether it was.
-fn grow_all<S: Store>(plain: &mut Plain, store: &mut S, sub: &Subscription, shelf: &[u8], i: u64, l: &EntriesLayout, part: &[u8]) -> bool
+fn grow_all<S: Store>(
+    plain: &mut Plain,
+    store: &mut S,
+    sub: &Subscription,
+    shelf: &[u8],
+    i: u64,
+    l: &EntriesLayout,
+    part: &[u8],
+) -> bool
     requires { ⌜ 44800 ≤ length (now shelf) ⌝ ∗ ⌜ attended (watchOf (now sub .watch)) (now plain .pending) ≡ true ⌝ }
     ensures state { λ _. ⌜ stateIn (kind (setup (now (store .entry)))) (now (sub .entry)) (now (plain .exit)) (model (now (store .exit))) (now (shelf .entry)) ≡ eventSteps (kind (setup (now (store .entry)))) (openingOf (now (sub .entry))) (entriesFor i (now (l .entry)) (entryParts (now (l .entry)) (now (part .entry)))) (stateIn (kind (setup (now (store .entry)))) (now (sub .entry)) (now (plain .entry)) (model (now (store .entry))) (now (shelf .entry))) ⌝ }
     ensures log { λ r. ⌜ length (eventLogs (kind (setup (now (store .entry)))) (openingOf (now (sub .entry))) (entriesFor i (now (l .entry)) (entryParts (now (l .entry)) (now (part .entry)))) (stateIn (kind (setup (now (store .entry)))) (now (sub .entry)) (now (plain .entry)) (model (now (store .entry))) (now (shelf .entry)))) ≡ bit r ⌝ }
@@ -66,7 +82,13 @@ fn grow_all<S: Store>(plain: &mut Plain, store: &mut S, sub: &Subscription, shel
 }
 
 // A message of a snapshot packet; whether it led to an adoption.
-fn tell<S: Store>(plain: &mut Plain, store: &mut S, sub: &Subscription, shelf: &[u8], m: &Message) -> bool
+fn tell<S: Store>(
+    plain: &mut Plain,
+    store: &mut S,
+    sub: &Subscription,
+    shelf: &[u8],
+    m: &Message,
+) -> bool
     requires { ⌜ 44800 ≤ length (now shelf) ⌝ ∗ ⌜ attended (watchOf (now sub .watch)) (now plain .pending) ≡ true ⌝ }
     ensures state { λ _. ⌜ stateIn (kind (setup (now (store .entry)))) (now (sub .entry)) (now (plain .exit)) (model (now (store .exit))) (now (shelf .entry)) ≡ eventSteps (kind (setup (now (store .entry)))) (openingOf (now (sub .entry))) (told (view (now (m .entry)))) (stateIn (kind (setup (now (store .entry)))) (now (sub .entry)) (now (plain .entry)) (model (now (store .entry))) (now (shelf .entry))) ⌝ }
     ensures log { λ r. ⌜ length (eventLogs (kind (setup (now (store .entry)))) (openingOf (now (sub .entry))) (told (view (now (m .entry)))) (stateIn (kind (setup (now (store .entry)))) (now (sub .entry)) (now (plain .entry)) (model (now (store .entry))) (now (shelf .entry)))) ≡ bit r ⌝ }
@@ -75,7 +97,14 @@ fn tell<S: Store>(plain: &mut Plain, store: &mut S, sub: &Subscription, shelf: &
 {
     let id = security_of(m);
     match *m {
-        Message::Header(l, part) => open_group(plain, store, sub, shelf, id, header_fields(l, part)),
+        Message::Header(l, part) => open_group(
+            plain,
+            store,
+            sub,
+            shelf,
+            id,
+            header_fields(l, part),
+        ),
         Message::Stat(l, part) => match id {
             Some(i) => grow(plain, store, sub, shelf, i, &Piece::Stat(l, part)),
             None => false,
@@ -93,7 +122,13 @@ fn tell<S: Store>(plain: &mut Plain, store: &mut S, sub: &Subscription, shelf: &
 }
 
 // Every message of a snapshot packet, in order; the number of adoptions.
-pub(crate) fn follow<S: Store>(plain: &mut Plain, store: &mut S, sub: &Subscription, shelf: &[u8], packet: Checked) -> usize
+fn follow<S: Store>(
+    plain: &mut Plain,
+    store: &mut S,
+    sub: &Subscription,
+    shelf: &[u8],
+    packet: Checked,
+) -> usize
     requires { ⌜ 44800 ≤ length (now shelf) ⌝ ∗ ⌜ attended (watchOf (now sub .watch)) (now plain .pending) ≡ true ⌝ }
     ensures state { λ _. ⌜ stateIn (kind (setup (now (store .entry)))) (now (sub .entry)) (now (plain .exit)) (model (now (store .exit))) (now (shelf .entry)) ≡ messageSteps (kind (setup (now (store .entry)))) (openingOf (now (sub .entry))) (messages (now (packet .entry .sheet)) (now (packet .entry .bytes))) (stateIn (kind (setup (now (store .entry)))) (now (sub .entry)) (now (plain .entry)) (model (now (store .entry))) (now (shelf .entry))) ⌝ }
     ensures log { λ r. ⌜ length (messageLogs (kind (setup (now (store .entry)))) (openingOf (now (sub .entry))) (messages (now (packet .entry .sheet)) (now (packet .entry .bytes))) (stateIn (kind (setup (now (store .entry)))) (now (sub .entry)) (now (plain .entry)) (model (now (store .entry))) (now (shelf .entry)))) ≡ r ⌝ }
@@ -108,4 +143,21 @@ pub(crate) fn follow<S: Store>(plain: &mut Plain, store: &mut S, sub: &Subscript
         }
     }
     adoptions
+}
+
+// Every message of a snapshot packet that keeps the rules; the number of adoptions.
+pub(crate) fn follow_bytes<S: Store>(
+    plain: &mut Plain,
+    store: &mut S,
+    sub: &Subscription,
+    shelf: &[u8],
+    bytes: &[u8],
+) -> usize
+    requires { ⌜ 44800 ≤ length (now shelf) ⌝ ∗ ⌜ attended (watchOf (now sub .watch)) (now plain .pending) ≡ true ⌝ ∗ ⌜ isOk (packetCheck (now sub .sheet) (now bytes)) ≡ true ⌝ }
+    ensures state { λ _. ⌜ stateIn (kind (setup (now (store .entry)))) (now (sub .entry)) (now (plain .exit)) (model (now (store .exit))) (now (shelf .entry)) ≡ messageSteps (kind (setup (now (store .entry)))) (openingOf (now (sub .entry))) (messages (now (sub .entry) .sheet) (now (bytes .entry))) (stateIn (kind (setup (now (store .entry)))) (now (sub .entry)) (now (plain .entry)) (model (now (store .entry))) (now (shelf .entry))) ⌝ }
+    ensures log { λ r. ⌜ length (messageLogs (kind (setup (now (store .entry)))) (openingOf (now (sub .entry))) (messages (now (sub .entry) .sheet) (now (bytes .entry))) (stateIn (kind (setup (now (store .entry)))) (now (sub .entry)) (now (plain .entry)) (model (now (store .entry))) (now (shelf .entry)))) ≡ r ⌝ }
+    ensures attends { λ _. ⌜ attended (watchOf (now (sub .entry) .watch)) (now (plain .exit) .pending) ≡ true ⌝ }
+    ensures stays { λ _. ⌜ setup (now (store .exit)) ≡ setup (now (store .entry)) ⌝ }
+{
+    follow(plain, store, sub, shelf, Checked::new(&sub.sheet, bytes))
 }

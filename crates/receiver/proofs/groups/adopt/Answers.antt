@@ -16,6 +16,7 @@ returns-in-Ok g c =
     record {
       answer = wants K u p p′ s s′ (c .args .shelf .now) (c .args .slot) (c .args .g) (c .pre .0) lt busy ok;
       state = adopts K u p p′ s s′ (c .args .shelf .now) (c .args .slot) (c .args .g) (c .pre .0) lt busy ok (c .in-Ok .ensures tt .after)
-        (e .marks) (e .heard) (e .places .0) (e .places .1) (e .others .0) (e .others .1) (e .others .2) _ (c .renew .last .plain) (m .model (c .renew .last .store)) (ap (m .kind) (c .in-Ok .ensures tt .stays)) (c .renew .ensures .state);
+          (e .marks) (e .heard) (e .places .0) (e .places .1) (e .others .0) (e .others .1) (e .others .2) _ (c .renew .last .plain) (m .model (c .renew .last .store)) (ap (m .kind) (c .in-Ok .ensures tt .stays)) (c .renew .ensures .state);
       pending = c .renew .ensures .pending ∙ e .others .2;
-      stays = c .renew .ensures .stays ∙ c .in-Ok .ensures tt .stays }
+      stays = c .renew .ensures .stays ∙ c .in-Ok .ensures tt .stays;
+    }

@@ -12,7 +12,7 @@ abbrev pub Inv-loop-m : given.InvT-loop-m
 Inv-loop-m g l =
     let m = g .S·Store in let K = m .kind (m .setup (l .entry .store)) in
     Ahead K (openingOf (l .sub)) (l .adoptions) (messagesFrom (now (l .entry .walk .sheet)) 0 (now (l .entry .walk .rest))) (messagesFrom (now (l .walk .sheet)) 0 (now (l .walk .rest)))
-      (stateIn K (l .sub) (l .entry .plain) (m .model (l .entry .store)) (l .shelf)) (stateIn K (l .sub) (l .plain) (m .model (l .store)) (l .shelf))
+    (stateIn K (l .sub) (l .entry .plain) (m .model (l .entry .store)) (l .shelf)) (stateIn K (l .sub) (l .plain) (m .model (l .store)) (l .shelf))
     × (attended (watchOf (l .sub .watch)) (l .plain .pending) ≡ true)
     × (m .setup (l .store) ≡ m .setup (l .entry .store))
 

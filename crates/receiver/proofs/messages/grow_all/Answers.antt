@@ -22,7 +22,8 @@ returns-then-grow g c =
       state = q .0 ∙ ap (λ z. eventSteps K o (entriesFor (c .args .i) (c .args .l .now) z) s₀) (c .entries-of-entries .ensures);
       log = ap (λ z. length (eventLogs K o (entriesFor (c .args .i) (c .args .l .now) z) s₀)) (sym (c .entries-of-entries .ensures)) ∙ q .1;
       attends = c .grow .ensures .attends;
-      stays = c .grow .ensures .stays ∙ c .loop-e .inv .2 }
+      stays = c .grow .ensures .stays ∙ c .loop-e .inv .2;
+    }
 
 pub loop-e-again : need.loop-e-again
 loop-e-again g c =
@@ -30,9 +31,11 @@ loop-e-again g c =
     let same = ap (m .kind) (c .loop-e .inv .2) in let e = adds (c .args .i) (orTorn entry (entryFields (c .args .l .now) (now (c .in-Some .e)))) in
     let p = c .loop-e .plain in let s = m .model (c .loop-e .store) in let p′ = c .grow .last .plain in let s′ = m .model (c .grow .last .store) in
     let step = subst (λ z. stateIn z u p′ s′ b ≡ eventStep z o e (stateIn z u p s b)) same (c .grow .ensures .state) in
-    let log = subst (λ z. length (eventLog z o e (stateIn z u p s b)) ≡ bit (c .grow .result)) same (c .grow .ensures .log) in
-    (come-next K o (c .args .i) (c .args .l .now) _ _ _ (now (c .in-Some .e)) _ (stateIn K u p s b) (stateIn K u p′ s′ b) (c .loop-e .inv .0) (c .in-Some .ensures tt) step (c .grow .result) log (c .if-grow .left),
-    c .grow .ensures .attends, c .grow .ensures .stays ∙ c .loop-e .inv .2)
+    let log = subst (λ z. length (eventLog z o e (stateIn z u p s b)) ≡ bit (c .grow .result)) same (c .grow .ensures .log) in (
+      come-next K o (c .args .i) (c .args .l .now) _ _ _ (now (c .in-Some .e)) _ (stateIn K u p s b) (stateIn K u p′ s′ b) (c .loop-e .inv .0) (c .in-Some .ensures tt) step (c .grow .result) log (c .if-grow .left),
+      c .grow .ensures .attends,
+      c .grow .ensures .stays ∙ c .loop-e .inv .2,
+    )
 
 pub returns : need.returns
 returns g c =
@@ -43,4 +46,5 @@ returns g c =
       state = q .0 ∙ ap (λ z. eventSteps K o (entriesFor (c .args .i) (c .args .l .now) z) s₀) (c .entries-of-entries .ensures);
       log = ap (λ z. length (eventLogs K o (entriesFor (c .args .i) (c .args .l .now) z) s₀)) (sym (c .entries-of-entries .ensures)) ∙ q .1;
       attends = c .loop-e .inv .1;
-      stays = c .loop-e .inv .2 }
+      stays = c .loop-e .inv .2;
+    }

@@ -12,7 +12,7 @@ abbrev pub Inv-loop-e : given.InvT-loop-e
 Inv-loop-e g l =
     let m = g .S·Store in let K = m .kind (m .setup (l .entry .store)) in
     ToCome K (openingOf (l .sub)) (l .i) (l .l) (parts (l .entry .entries .size) (l .entry .entries .left) (now (l .entry .entries .rest))) (parts (l .entries .size) (l .entries .left) (now (l .entries .rest)))
-      (stateIn K (l .sub) (l .entry .plain) (m .model (l .entry .store)) (l .shelf)) (stateIn K (l .sub) (l .plain) (m .model (l .store)) (l .shelf))
+    (stateIn K (l .sub) (l .entry .plain) (m .model (l .entry .store)) (l .shelf)) (stateIn K (l .sub) (l .plain) (m .model (l .store)) (l .shelf))
     × (attended (watchOf (l .sub .watch)) (l .plain .pending) ≡ true)
     × (m .setup (l .store) ≡ m .setup (l .entry .store))
 

@@ -14,7 +14,9 @@ returns-in-None g c =
     record {
       state = steps-one K (openingOf u) closes s _ refl ∙ sym (ap (λ z. eventSteps K (openingOf u) (opensFor z (c .args .h)) s) (c .in-None .is));
       log = ap (λ z. length (eventLogs K (openingOf u) (opensFor z (c .args .h)) s)) (c .in-None .is) ∙ logs-one K (openingOf u) closes s 0 refl;
-      attends = refl; stays = refl }
+      attends = refl;
+      stays = refl;
+    }
 
 pub returns-in-None-h : need.returns-in-None-h
 returns-in-None-h g c =
@@ -23,7 +25,9 @@ returns-in-None-h g c =
     record {
       state = steps-one K (openingOf u) closes s _ refl ∙ sym (ap₂ (λ y z. eventSteps K (openingOf u) (opensFor y z) s) (c .in-Some .is) (c .in-None-h .is));
       log = ap₂ (λ y z. length (eventLogs K (openingOf u) (opensFor y z) s)) (c .in-Some .is) (c .in-None-h .is) ∙ logs-one K (openingOf u) closes s 0 refl;
-      attends = refl; stays = refl }
+      attends = refl;
+      stays = refl;
+    }
 
 pub returns-in-Some-h : need.returns-in-Some-h
 returns-in-Some-h g c =
@@ -32,4 +36,6 @@ returns-in-Some-h g c =
     record {
       state = steps-one K (openingOf u) e s _ (c .begin .ensures .state) ∙ sym (ap₂ (λ y z. eventSteps K (openingOf u) (opensFor y z) s) (c .in-Some .is) (c .in-Some-h .is));
       log = ap₂ (λ y z. length (eventLogs K (openingOf u) (opensFor y z) s)) (c .in-Some .is) (c .in-Some-h .is) ∙ logs-one K (openingOf u) e s _ (c .begin .ensures .log);
-      attends = c .begin .ensures .attends; stays = c .begin .ensures .stays }
+      attends = c .begin .ensures .attends;
+      stays = c .begin .ensures .stays;
+    }

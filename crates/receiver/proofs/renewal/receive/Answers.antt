@@ -22,11 +22,13 @@ shelve-requires g c κs = accepted (openingOf (c .args .sub .now)) _ _ (length (
 pub renew-requires : need.renew-requires
 renew-requires g c κs =
     let a = accepted (openingOf (c .args .sub .now)) _ _ (length (c .args .shelf .now)) (c .args .bytes .now) _ (c .pre) in
-    let t = c .args .plain .now .places in let e = c .shelve .ensures in let q = c .from-q .result in
-    (omega (arith, a .long, c .lay .kept), λ _.
-      ap (λ z. isOk (packetCheck (c .args .sub .now .sheet) (partOf (c .shelve .last .self .lengths) z q))) (c .lay .ensures)
-      ∙ ap (λ z. isOk (packetCheck (c .args .sub .now .sheet) z)) (part-here (c .args .sub .now .sheet) t (c .shelve .last .self) (c .args .shelf .now) (c .args .bytes .now) q (a .long) (a .small) (e .0) (e .1) (e .2))
-      ∙ a .whole)
+    let t = c .args .plain .now .places in let e = c .shelve .ensures in let q = c .from-q .result in (
+      omega (arith, a .long, c .lay .kept),
+      λ _.
+          ap (λ z. isOk (packetCheck (c .args .sub .now .sheet) (partOf (c .shelve .last .self .lengths) z q))) (c .lay .ensures)
+          ∙ ap (λ z. isOk (packetCheck (c .args .sub .now .sheet) z)) (part-here (c .args .sub .now .sheet) t (c .shelve .last .self) (c .args .shelf .now) (c .args .bytes .now) q (a .long) (a .small) (e .0) (e .1) (e .2))
+          ∙ a .whole,
+    )
 
 pub returns : need.returns
 returns g c =
@@ -38,6 +40,7 @@ returns g c =
     record {
       shelf = c .lay .ensures ∙ ap (λ n. written (c .args .shelf .now) n bs) is;
       state = receives (g .S·Store .kind (g .S·Store .setup (c .args .store .now))) (c .args .sub .now) (c .args .plain .now) (g .S·Store .model (c .args .store .now)) (c .args .shelf .now) (c .lay .last .shelf) bs q (c .shelve .last .self) _
-        (a .long) (a .small) pos late is (c .lay .ensures) (e .0) (e .1) (e .2) (c .renew .ensures .state);
+          (a .long) (a .small) pos late is (c .lay .ensures) (e .0) (e .1) (e .2) (c .renew .ensures .state);
       pending = c .renew .ensures .pending;
-      stays = c .renew .ensures .stays }
+      stays = c .renew .ensures .stays;
+    }

@@ -14,4 +14,5 @@ returns-in-Taken g c =
       shelf = taken _ _ _ _ o (c .receive .ensures .shelf);
       state = taken _ _ _ _ o (c .receive .ensures .state);
       opening = refl;
-      stays = c .receive .ensures .stays }
+      stays = c .receive .ensures .stays;
+    }
