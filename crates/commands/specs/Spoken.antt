@@ -21,7 +21,7 @@ pub data Spoken : Type 0 where
   sheet : (hex : List ℕ) → Spoken
   orders : (depth table : ℕ) → Spoken
   panel : Spoken
-  open : (own channel version : ℕ) (instruments : Option (List ℕ)) → Spoken
+  opening : (own channel version : ℕ) (instruments : Option (List ℕ)) → Spoken
   shelf : (length : ℕ) → Spoken
   poke : (place : ℕ) (hex : List ℕ) → Spoken
   check : (hex : List ℕ) → Spoken
@@ -40,7 +40,7 @@ abbrev pub said : Command → Spoken
 said (commands.Sheet w) = sheet (now w)
 said (commands.StoreOrders d t) = orders d t
 said commands.StorePanel = panel
-said (commands.Open o c v ids) = open o c v (mapped now ids)
+said (commands.Open o c v ids) = opening o c v (mapped now ids)
 said (commands.Shelf n) = shelf n
 said (commands.Poke n w) = poke n (now w)
 said (commands.Check w) = check (now w)
@@ -78,8 +78,8 @@ pokeOf text = atSpace (cutAt 32 text) None (λ a w. andThen (decimalOf a) (λ n.
 -- VERSION, or VERSION ID ID ..
 abbrev pub versionOf : ℕ → ℕ → List ℕ → Option Spoken
 versionOf o c text =
-    atSpace (cutAt 32 text) (andThen (upTo 65535 (decimalOf text)) (λ v. Some (open o c v None)))
-    (λ w ids. andThen (upTo 65535 (decimalOf w)) (λ v. Some (open o c v (Some ids))))
+    atSpace (cutAt 32 text) (andThen (upTo 65535 (decimalOf text)) (λ v. Some (opening o c v None)))
+    (λ w ids. andThen (upTo 65535 (decimalOf w)) (λ v. Some (opening o c v (Some ids))))
 
 -- CHANNEL and what follows
 abbrev pub channelOf : ℕ → List ℕ → Option Spoken

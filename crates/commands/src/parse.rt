@@ -8,7 +8,7 @@ use crate::number::decimal_8;
 use crate::verb::Verb;
 use crate::verb::lone_verb;
 use crate::verb::same;
-use crate::verb::verb;
+use crate::verb::worded_verb;
 use sheet_text::text::cut;
 
 // DEPTH TABLE
@@ -125,6 +125,6 @@ pub fn parse<'a>(line: &'a [u8]) -> Option<Command<'a>>
 {
     match cut(line, b' ') {
         None => alone(lone_verb(line)?),
-        Some((word, rest)) => with_words(verb(word)?, rest),
+        Some((word, rest)) => with_words(worded_verb(word)?, rest),
     }
 }

@@ -45,7 +45,7 @@ pub(crate) fn lone_verb(word: &[u8]) -> Option<Verb>
 }
 
 // The verb of a command that has more words.
-pub(crate) fn verb(word: &[u8]) -> Option<Verb>
+pub(crate) fn worded_verb(word: &[u8]) -> Option<Verb>
     ensures { λ r. ⌜ r ≡ verbOf (now (word .entry)) ⌝ }
 {
     if same(word, b"sheet") {

@@ -55,12 +55,18 @@ module _ {V O : Type 0} (K : Kind V O) (o : Opening) where
 
   of-grown : (i : ℕ) (p : Part) (g : Group) (s : State V O) → joinedIn (grown K o i p g s) ≡ joinedIn s
   of-grown i p g s =
-      of-cond joinedIn (eqb i (g .security)) _ _ s
-      (of-cond joinedIn (K .takes (s .rest .staged) (s .rest .owed) p) _ _ s (of-decided g _) refl)
+      let t : State V O = withStaged (K .put (s .rest .staged) (s .rest .owed) p) (K .less (s .rest .owed) p) s in
+      let u : State V O = withPending Closed s in
+      let w : State V O = cond (K .takes (s .rest .staged) (s .rest .owed) p) (decided K o g t) u in
+      of-cond joinedIn (eqb i (g .security)) w s s
+      (of-cond joinedIn (K .takes (s .rest .staged) (s .rest .owed) p) (decided K o g t) u s (of-decided g t) refl)
       refl
 
   of-event : (e : Event) (s : State V O) → joinedIn (eventStep K o e s) ≡ joinedIn s
-  of-event (opens i h) s = of-cond joinedIn (watched o i && K .holds h) _ _ s (of-decided (groupOf i h) _) refl
+  of-event (opens i h) s =
+      let t : State V O = withPending (Open (groupOf i h)) (withStaged (K .begins h) (K .owes h) s) in
+      let u : State V O = withPending Closed s in
+      of-cond joinedIn (watched o i && K .holds h) (begun K o i h s) u s (of-decided (groupOf i h) t) refl
   of-event closes s = refl
   of-event (adds i p) s = of-pending joinedIn (s .plain .pending) s s (λ g. grown K o i p g s) refl (λ g. of-grown i p g s)
 
@@ -79,7 +85,8 @@ module _ {V O : Type 0} (K : Kind V O) (o : Opening) where
 
   pub snapshot-stays : (j room : ℕ) (bytes : List ℕ) (s : State V O) → snapshotStep K o j room bytes s .plain .joined ≡ s .plain .joined
   snapshot-stays j room bytes s =
-      of-ok joinedIn (snapshotCheck o (s .plain) j room bytes) _ s s
-      (of-cond joinedIn (again (s .plain .followed) (packetHead bytes .version) (packetHead bytes .number)) s _ s refl
-      (of-messages (messages (o .sheet) bytes) (noted (packetHead bytes) s)))
+      let t : State V O = messageSteps K o (messages (o .sheet) bytes) (noted (packetHead bytes) s) in
+      let d : Bool = again (s .plain .followed) (packetHead bytes .version) (packetHead bytes .number) in
+      of-ok joinedIn (snapshotCheck o (s .plain) j room bytes) (cond d s t) s s
+      (of-cond joinedIn d s t s refl (of-messages (messages (o .sheet) bytes) (noted (packetHead bytes) s)))
       refl

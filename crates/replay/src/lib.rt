@@ -1,4 +1,5 @@
 pub mod call;
 pub mod desk;
 pub mod joins;
-// pub mod performing;
+pub mod opening;
+pub mod performing;

@@ -1,5 +1,5 @@
 ghost use mathlib.Core.Path.{_≡_};
-ghost use mathlib.Core.Bool.{true};
+ghost use mathlib.Core.Bool.{true, cond};
 ghost use Prim.Native.Nat.{ℕ};
 ghost use lib.ListN.{length};
 ghost use Rattle.recovery.specs.Answers.{incrementalAnswer};
@@ -8,6 +8,7 @@ ghost use Rattle.recovery.specs.Steps.{snapshotStep, snapshotAnswer, questionAn
 ghost use Rattle.recovery.specs.Calls.{step};
 ghost use Rattle.recovery.specs.Present.{Guaranteed};
 ghost use Rattle.receiver.specs.Standings.{openingOf, plainOf, stateIn};
+ghost use Rattle.receiver.specs.Joins.{leaving, slotAnswer};
 ghost use Rattle.replay.specs.Tied.{tied};
 ghost use Rattle.replay.specs.Requests.{request, shelfThen};
 ghost use Rattle.replay.specs.Replies.{ofIncremental, ofSnapshot, ofStanding, reply};
@@ -103,12 +104,31 @@ impl Desk {
         }
     }
 
-    // Gives a join that is still held back.
-    pub fn close(self) {
+    // How the book of an instrument stands. The recovery guarantee holds of what the receiver, the store and the shelf show.
+    pub fn question<S: Store>(&self, store: &S, shelf: &[u8], instrument: u64) -> Result<Standing, StreamFault>
+        ensures answer { λ r. ⌜ r ≡ questionAnswer (openingOf (now (self .entry) .receiver .sub)) instrument (stateIn (kind (setup (now (store .entry)))) (now (self .entry) .receiver .sub) (now (self .entry) .receiver .plain) (model (now (store .entry))) (now (shelf .entry))) ⌝ }
+        ensures guarantee { λ _. ⌜ Guaranteed (kind (setup (now (store .entry)))) (openingOf (now (self .entry) .receiver .sub)) (stateIn (kind (setup (now (store .entry)))) (now (self .entry) .receiver .sub) (now (self .entry) .receiver .plain) (model (now (store .entry))) (now (shelf .entry))) instrument (Image (setup (now (store .entry)))) ⌝ }
+    {
+        let _ = recovery_stands::<S>();
+        self.receiver.question(instrument)
+    }
+
+    // The slot at which the store shows the value of a watched instrument.
+    pub fn slot(&self, instrument: u64) -> Result<usize, StreamFault>
+        ensures { λ r. ⌜ r ≡ slotAnswer (now (self .entry) .receiver .sub) instrument ⌝ }
+    {
+        self.receiver.slot(instrument)
+    }
+
+    // The receiver, with a join that was still held given back.
+    pub fn close(self) -> Receiver
+        ensures after { λ r. ⌜ r .plain ≡ cond (self .receiver .plain .joined) (leaving (self .receiver .plain)) (self .receiver .plain) ⌝ }
+        ensures opening { λ r. ⌜ r .sub ≡ self .receiver .sub ⌝ }
+    {
         let Desk { mut receiver, mut held } = self;
         let _ = part(&mut receiver, &mut held);
         match held {
-            None => {}
+            None => receiver,
             Some(_) => unreachable(),
         }
     }
