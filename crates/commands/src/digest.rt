@@ -2,6 +2,7 @@ ghost use mathlib.Core.Path.{_≡_};
 ghost use Rattle.commands.specs.Digest.{mixed, digestOf};
 
 const BASIS: u64 = 14695981039346656037;
+
 const PRIME: u64 = 1099511628211;
 
 // The digest with one byte more.

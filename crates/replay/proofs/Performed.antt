@@ -1,10 +1,11 @@
 -- A call at the desk, by the call of the machine that it stands for.
 use mathlib.Core.Path.{_≡_, refl, sym, subst}
-use mathlib.Core.Bool.{Bool, true, _&&_}
+use mathlib.Core.Bool.{Bool, true}
 use mathlib.Core.List.{List}
 use Prim.Native.Nat.{ℕ}
 use lib.Dec.{eqb}
 use borrow.Author.Tests.{eqb-true}
+use Rattle.std.proofs.shelf.Tests.{and-parts}
 use Rattle.std.specs.declared.option.Option.{Option}
 use Rattle.std.specs.declared.option.Option.the-variants.{Some, None}
 use Rattle.store.specs.Kind.{Kind}
@@ -25,9 +26,6 @@ module _ {V O : Type 0} (K : Kind V O) (o : Opening) (own room : ℕ) (s t : Sta
   pub performed : (x y : Call) → x ≡ y → Performs y → Performs x
   performed x y e h = subst Performs (sym e) h
 
-right : (a b : Bool) → a && b ≡ true → b ≡ true
-right true b h = h
-
 -- the join that is held carries the receiver's number
 pub tied-own : (b : Bool) (own : ℕ) (h : Option Join) (j : Join) → h ≡ Some j → tied b own h ≡ true → j .own ≡ own
-tied-own b own h j e k = eqb-true (j .own) own (right b (eqb (j .own) own) (subst (λ (x : Option Join). tied b own x ≡ true) e k))
+tied-own b own h j e k = eqb-true (j .own) own (and-parts b (eqb (j .own) own) (subst (λ (x : Option Join). tied b own x ≡ true) e k) .1)

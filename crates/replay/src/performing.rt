@@ -68,7 +68,13 @@ fn take<S: Store>(receiver: &mut Receiver, store: &mut S, shelf: &mut [u8], byte
 }
 
 // Brings a snapshot packet to the receiver under the join that is held; with none held it is refused.
-fn follow<S: Store>(receiver: &mut Receiver, held: &Option<Join>, store: &mut S, shelf: &[u8], bytes: &[u8]) -> Answer
+fn follow<S: Store>(
+    receiver: &mut Receiver,
+    held: &Option<Join>,
+    store: &mut S,
+    shelf: &[u8],
+    bytes: &[u8],
+) -> Answer
     requires { ⌜ tied (now receiver .plain .joined) (now receiver .sub .own) (now held) ≡ true ⌝ }
     ensures answer { λ r. ⌜ r ≡ ofSnapshot (snapshotAnswer (kind (setup (now (store .entry)))) (openingOf (now (receiver .entry) .sub)) (now (receiver .entry) .sub .own) (length (now (shelf .entry))) (now (bytes .entry)) (stateIn (kind (setup (now (store .entry)))) (now (receiver .entry) .sub) (now (receiver .entry) .plain) (model (now (store .entry))) (now (shelf .entry)))) ⌝ }
     ensures state { λ _. ⌜ stateIn (kind (setup (now (store .entry)))) (now (receiver .entry) .sub) (now (receiver .exit) .plain) (model (now (store .exit))) (now (shelf .entry)) ≡ snapshotStep (kind (setup (now (store .entry)))) (openingOf (now (receiver .entry) .sub)) (now (receiver .entry) .sub .own) (length (now (shelf .entry))) (now (bytes .entry)) (stateIn (kind (setup (now (store .entry)))) (now (receiver .entry) .sub) (now (receiver .entry) .plain) (model (now (store .entry))) (now (shelf .entry))) ⌝ }
@@ -105,7 +111,12 @@ impl Desk {
     }
 
     // How the book of an instrument stands. The recovery guarantee holds of what the receiver, the store and the shelf show.
-    pub fn question<S: Store>(&self, store: &S, shelf: &[u8], instrument: u64) -> Result<Standing, StreamFault>
+    pub fn question<S: Store>(
+        &self,
+        store: &S,
+        shelf: &[u8],
+        instrument: u64,
+    ) -> Result<Standing, StreamFault>
         ensures answer { λ r. ⌜ r ≡ questionAnswer (openingOf (now (self .entry) .receiver .sub)) instrument (stateIn (kind (setup (now (store .entry)))) (now (self .entry) .receiver .sub) (now (self .entry) .receiver .plain) (model (now (store .entry))) (now (shelf .entry))) ⌝ }
         ensures guarantee { λ _. ⌜ Guaranteed (kind (setup (now (store .entry)))) (openingOf (now (self .entry) .receiver .sub)) (stateIn (kind (setup (now (store .entry)))) (now (self .entry) .receiver .sub) (now (self .entry) .receiver .plain) (model (now (store .entry))) (now (shelf .entry))) instrument (Image (setup (now (store .entry)))) ⌝ }
     {
@@ -125,7 +136,10 @@ impl Desk {
         ensures after { λ r. ⌜ r .plain ≡ cond (self .receiver .plain .joined) (leaving (self .receiver .plain)) (self .receiver .plain) ⌝ }
         ensures opening { λ r. ⌜ r .sub ≡ self .receiver .sub ⌝ }
     {
-        let Desk { mut receiver, mut held } = self;
+        let Desk {
+            mut receiver,
+            mut held,
+        } = self;
         let _ = part(&mut receiver, &mut held);
         match held {
             None => receiver,

@@ -59,7 +59,6 @@ fn slots_of(next: Next) -> usize {
     }
 }
 
-
 impl Session {
     pub fn new(heap: Global) -> Result<Session, AllocError> {
         let sheet = Sheet::blank(heap)?;
@@ -157,7 +156,10 @@ impl Session {
     // Whether these are numbers parted by one space; then they are the instruments.
     fn read_ids(&mut self, text: &[u8]) -> Result<bool, AnyError> {
         let mut rest = text;
-        while let Some((word, after)) = cut(rest, b' ') {
+        for _ in 0..text.len() {
+            let Some((word, after)) = cut(rest, b' ') else {
+                break;
+            };
             let Some(id) = decimal(word) else {
                 return Ok(false);
             };

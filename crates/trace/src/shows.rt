@@ -44,7 +44,12 @@ pub impl<'t> Shows for OrderStore<'t> as OrderStoreShows {
         Ok(())
     }
 
-    fn show_stats(&self, _slot: usize, _templates: &[u16], _out: &mut String) -> Result<(), AnyError> {
+    fn show_stats(
+        &self,
+        _slot: usize,
+        _templates: &[u16],
+        _out: &mut String,
+    ) -> Result<(), AnyError> {
         Ok(())
     }
 }

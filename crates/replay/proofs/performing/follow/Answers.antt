@@ -5,6 +5,7 @@ use lib.ListN.{length}
 use denote.Ref.{now}
 use Rattle.recovery.specs.State.{State}
 use Rattle.recovery.specs.Steps.{snapshotStep, snapshotAnswer}
+use Rattle.receiver.specs.declared.join.Join.{Join}
 use Rattle.receiver.specs.Standings.{openingOf, stateIn}
 use Rattle.replay.specs.Replies.{ofSnapshot}
 use Rattle.replay.proofs.Staying.{snapshot-stays}
@@ -19,7 +20,7 @@ returns-in-Some g c =
     let room = length (now (c .args .shelf)) in
     let bytes = now (c .args .bytes) in
     let s : State (g .S·Store .Value) (g .S·Store .Owed) = stateIn K u p (g .S·Store .model (now (c .args .store))) (now (c .args .shelf)) in
-    let j = now (c .in-Some .join) in
+    let j : Join = c .in-Some .join in
     let e : j .own ≡ u .own = tied-own (p .joined) (u .own) (now (c .args .held)) j (c .in-Some .is) (c .pre) in
     record {
       answer = c .snapshot-answer .ensures ∙ ap ofSnapshot (c .snapshot .ensures .answer ∙ ap (λ (x : ℕ). snapshotAnswer K (openingOf u) x room bytes s) e);

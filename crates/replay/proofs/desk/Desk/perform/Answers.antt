@@ -25,7 +25,7 @@ returns-in-Incremental g c =
     let s : State (g .S·Store .Value) (g .S·Store .Owed) = stateIn K u p m (now (c .args .shelf)) in
     let t : State (g .S·Store .Value) (g .S·Store .Owed) = stateIn K u (c .take .last .receiver .plain) (g .S·Store .model (c .take .last .store)) (c .take .last .shelf) in
     let h = performed K (openingOf u) (u .own) room s t (now (c .args .shelf)) (c .take .last .shelf) (c .take .result) (c .args .call) (Incremental (c .in-Incremental .bytes)) (c .in-Incremental .is)
-            (c .take .ensures .answer, c .take .ensures .state, c .take .ensures .shelf) in
+    (c .take .ensures .answer, c .take .ensures .state, c .take .ensures .shelf) in
     record {
       answer = h .0;
       state = h .1;
@@ -46,7 +46,7 @@ returns-in-Join g c =
     let s : State (g .S·Store .Value) (g .S·Store .Owed) = stateIn K u p m (now (c .args .shelf)) in
     let t : State (g .S·Store .Value) (g .S·Store .Owed) = stateIn K u (c .enter .last .receiver .plain) m (now (c .args .shelf)) in
     let h = performed K (openingOf u) (u .own) room s t (now (c .args .shelf)) (now (c .args .shelf)) (c .enter .result) (c .args .call) Join (c .in-Join .is)
-            (c .enter .ensures .answer, ap (λ (x : Plain). stateIn K u x m (now (c .args .shelf))) (c .enter .ensures .after) ∙ when-ok (λ (x : Plain). stateIn K u x m (now (c .args .shelf))) (joinCheck (plainOf (u .sheet) p [])) (joining p) p, refl) in
+    (c .enter .ensures .answer, ap (λ (x : Plain). stateIn K u x m (now (c .args .shelf))) (c .enter .ensures .after) ∙ when-ok (λ (x : Plain). stateIn K u x m (now (c .args .shelf))) (joinCheck (plainOf (u .sheet) p [])) (joining p) p, refl) in
     record {
       answer = h .0;
       state = h .1;
@@ -67,7 +67,7 @@ returns-in-Leave g c =
     let s : State (g .S·Store .Value) (g .S·Store .Owed) = stateIn K u p m (now (c .args .shelf)) in
     let t : State (g .S·Store .Value) (g .S·Store .Owed) = stateIn K u (c .part .last .receiver .plain) m (now (c .args .shelf)) in
     let h = performed K (openingOf u) (u .own) room s t (now (c .args .shelf)) (now (c .args .shelf)) (c .part .result) (c .args .call) Leave (c .in-Leave .is)
-            (c .part .ensures .answer, ap (λ (x : Plain). stateIn K u x m (now (c .args .shelf))) (c .part .ensures .after) ∙ when-ok (λ (x : Plain). stateIn K u x m (now (c .args .shelf))) (presentJoin (openingOf u) (plainOf (u .sheet) p []) (u .own)) (leaving p) p, refl) in
+    (c .part .ensures .answer, ap (λ (x : Plain). stateIn K u x m (now (c .args .shelf))) (c .part .ensures .after) ∙ when-ok (λ (x : Plain). stateIn K u x m (now (c .args .shelf))) (presentJoin (openingOf u) (plainOf (u .sheet) p []) (u .own)) (leaving p) p, refl) in
     record {
       answer = h .0;
       state = h .1;
@@ -88,7 +88,7 @@ returns-in-Snapshot g c =
     let s : State (g .S·Store .Value) (g .S·Store .Owed) = stateIn K u p m (now (c .args .shelf)) in
     let t : State (g .S·Store .Value) (g .S·Store .Owed) = stateIn K u (c .follow .last .receiver .plain) (g .S·Store .model (c .follow .last .store)) (now (c .args .shelf)) in
     let h = performed K (openingOf u) (u .own) room s t (now (c .args .shelf)) (now (c .args .shelf)) (c .follow .result) (c .args .call) (Snapshot (c .in-Snapshot .bytes)) (c .in-Snapshot .is)
-            (c .follow .ensures .answer, c .follow .ensures .state, refl) in
+    (c .follow .ensures .answer, c .follow .ensures .state, refl) in
     record {
       answer = h .0;
       state = h .1;
@@ -109,7 +109,7 @@ returns-in-Question g c =
     let s : State (g .S·Store .Value) (g .S·Store .Owed) = stateIn K u p m (now (c .args .shelf)) in
     let t : State (g .S·Store .Value) (g .S·Store .Owed) = s in
     let h = performed K (openingOf u) (u .own) room s t (now (c .args .shelf)) (now (c .args .shelf)) (c .standing-answer .result) (c .args .call) (Question (c .in-Question .instrument)) (c .in-Question .is)
-            (c .standing-answer .ensures ∙ ap ofStanding (c .question .ensures), refl, refl) in
+    (c .standing-answer .ensures ∙ ap ofStanding (c .question .ensures), refl, refl) in
     record {
       answer = h .0;
       state = h .1;
