@@ -2,7 +2,8 @@
 use mathlib.Core.Bool.{cond, _&&_}
 use mathlib.Core.List.{List, [], _∷_}
 use Prim.Native.Nat.{ℕ, _+_, _*_, _-_, _^_}
-use lib.Dec.{leb, ltb}
+use lib.Dec.{eqb, leb, ltb}
+use lib.ListN.{length}
 use Rattle.std.specs.declared.option.Option.{Option}
 use Rattle.std.specs.declared.option.Option.the-variants.{Some, None}
 
@@ -20,8 +21,7 @@ figures n (d ∷ ds) = andThen (figure n d) (λ m. figures m ds)
 
 -- the number that a word stands for: at least one figure
 abbrev pub decimalOf : List ℕ → Option ℕ
-decimalOf [] = None
-decimalOf (d ∷ ds) = figures 0 (d ∷ ds)
+decimalOf word = cond (eqb (length word) 0) None (figures 0 word)
 
 abbrev pub upTo : ℕ → Option ℕ → Option ℕ
 upTo most None = None

@@ -24,7 +24,10 @@ pub fn decimal(word: &[u8]) -> Option<u64>
     }
     let mut n: u64 = 0;
     for d in word {
-        n = one_figure(n, *d)?;
+        let Some(m) = one_figure(n, *d) else {
+            return None;
+        };
+        n = m;
     }
     Some(n)
 }

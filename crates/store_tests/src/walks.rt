@@ -60,33 +60,7 @@ fn order(s: &mut OrderStore, action: u8, side: u8, at: u8, oid: u8) -> Result<()
         firm: one(14),
     };
     let part = [
-        0,
-        0,
-        0,
-        0,
-        0,
-        0,
-        0,
-        0,
-        0,
-        0,
-        0,
-        0,
-        7,
-        action,
-        side,
-        at,
-        0,
-        0,
-        0,
-        0,
-        0,
-        0,
-        0,
-        0,
-        5,
-        oid,
-        9,
+        0, 0, 0, 0, 0, 0, 0, 0, 0, 0, 0, 0, 7, action, side, at, 0, 0, 0, 0, 0, 0, 0, 0, 5, oid, 9,
     ];
     s.apply(0, &Message::Order(&l, &part))
 }
@@ -188,14 +162,12 @@ fn cancelled_bids_leave_the_offers() -> Result<(), Fail> {
 fn a_book_is_adopted_once_whole() -> Result<(), Fail> {
     let mut table = [NO_ORDER; 64];
     let mut s = OrderStore::open(actions(), 8, &mut table);
-    s.stage(
-        &HeaderFields {
-            last: 9,
-            bids: 2,
-            offers: 1,
-            stats: 0,
-        },
-    )?;
+    s.stage(&HeaderFields {
+        last: 9,
+        bids: 2,
+        offers: 1,
+        stats: 0,
+    })?;
     entry(&mut s, 48, 1, 1)?;
     entry(&mut s, 49, 1, 2)?;
     check(s.adopt(0) == Err(StoreFault::Owed))?;
