@@ -164,6 +164,27 @@ fn answer_shelf(
     Ok(Done::Answered)
 }
 
+// The word of bytes that a call brings; that of no bytes where it brings none.
+fn word_of<'a>(c: &Command<'a>) -> &'a [u8] {
+    match *c {
+        Command::Inc(word) => word,
+        Command::Snap(word) => word,
+        _ => b"-",
+    }
+}
+
+// The call that a command makes, with the bytes that it brings.
+fn call_of<'a>(c: &Command, bytes: &'a [u8]) -> Option<Call<'a>> {
+    match *c {
+        Command::Inc(_) => Some(Call::Incremental(bytes)),
+        Command::Snap(_) => Some(Call::Snapshot(bytes)),
+        Command::Join => Some(Call::Join),
+        Command::Leave => Some(Call::Leave),
+        Command::Ask(id) => Some(Call::Question(id)),
+        _ => None,
+    }
+}
+
 // Performs a call of the receiver and writes its answer; `Unknown` where it is none.
 fn answer_call<S: Store>(
     desk: &mut Desk,
@@ -173,26 +194,17 @@ fn answer_call<S: Store>(
     c: Command,
     out: &mut String,
 ) -> Result<Done, AnyError> {
-    let answer = match c {
-        Command::Inc(word) => {
-            if !hex::decode(word, &mut session.bytes)? {
-                return Ok(Done::Unknown);
-            }
-            desk.perform(store, shelf, Call::Incremental(session.bytes.as_slice()))
+    if !hex::decode(word_of(&c), &mut session.bytes)? {
+        return Ok(Done::Unknown);
+    }
+    match call_of(&c, session.bytes.as_slice()) {
+        Some(call) => {
+            let answer = desk.perform(store, shelf, call);
+            tell(answer, out)?;
+            Ok(Done::Answered)
         }
-        Command::Snap(word) => {
-            if !hex::decode(word, &mut session.bytes)? {
-                return Ok(Done::Unknown);
-            }
-            desk.perform(store, shelf, Call::Snapshot(session.bytes.as_slice()))
-        }
-        Command::Join => desk.perform(store, shelf, Call::Join),
-        Command::Leave => desk.perform(store, shelf, Call::Leave),
-        Command::Ask(id) => desk.perform(store, shelf, Call::Question(id)),
-        _ => return Ok(Done::Unknown),
-    };
-    tell(answer, out)?;
-    Ok(Done::Answered)
+        None => Ok(Done::Unknown),
+    }
 }
 
 // Answers a command at a receiver.
