@@ -8,7 +8,7 @@ ghost use Rattle.recovery.specs.Steps.{snapshotStep, snapshotAnswer, questionAn
 ghost use Rattle.recovery.specs.Calls.{step};
 ghost use Rattle.recovery.specs.Present.{Guaranteed};
 ghost use Rattle.receiver.specs.Standings.{openingOf, plainOf, stateIn};
-ghost use Rattle.receiver.specs.Joins.{leaving, slotAnswer};
+ghost use Rattle.receiver.specs.Joins.{leaving, slotAnswer, standingOf};
 ghost use Rattle.replay.specs.Tied.{tied};
 ghost use Rattle.replay.specs.Requests.{request, shelfThen};
 ghost use Rattle.replay.specs.Replies.{ofIncremental, ofSnapshot, ofStanding, reply};
@@ -106,7 +106,7 @@ impl Desk {
             Call::Join => enter(&mut self.receiver, &mut self.held),
             Call::Leave => part(&mut self.receiver, &mut self.held),
             Call::Snapshot(bytes) => follow(&mut self.receiver, &self.held, store, shelf, bytes),
-            Call::Question(instrument) => standing_answer(self.receiver.question(instrument)),
+            Call::Question(instrument) => standing_answer(self.standing(instrument)),
         }
     }
 
@@ -121,6 +121,13 @@ impl Desk {
         ensures guarantee { λ _. ⌜ Guaranteed (kind (setup (now (store .entry)))) (openingOf (now (self .entry) .receiver .sub)) (stateIn (kind (setup (now (store .entry)))) (now (self .entry) .receiver .sub) (now (self .entry) .receiver .plain) (model (now (store .entry))) (now (shelf .entry))) instrument (Image (setup (now (store .entry)))) ⌝ }
     {
         let _ = recovery_stands::<S>();
+        self.standing(instrument)
+    }
+
+    // How the book of an instrument stands, by the receiver alone.
+    fn standing(&self, instrument: u64) -> Result<Standing, StreamFault>
+        ensures { λ r. ⌜ r ≡ standingOf (now (self .entry) .receiver .sub) (now (self .entry) .receiver .plain) instrument ⌝ }
+    {
         self.receiver.question(instrument)
     }
 

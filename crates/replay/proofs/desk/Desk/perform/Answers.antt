@@ -109,7 +109,7 @@ returns-in-Question g c =
     let s : State (g .S·Store .Value) (g .S·Store .Owed) = stateIn K u p m (now (c .args .shelf)) in
     let t : State (g .S·Store .Value) (g .S·Store .Owed) = s in
     let h = performed K (openingOf u) (u .own) room s t (now (c .args .shelf)) (now (c .args .shelf)) (c .standing-answer .result) (c .args .call) (Question (c .in-Question .instrument)) (c .in-Question .is)
-    (c .standing-answer .ensures ∙ ap ofStanding (c .question .ensures), refl, refl) in
+    (c .standing-answer .ensures ∙ ap ofStanding (c .standing .ensures), refl, refl) in
     record {
       answer = h .0;
       state = h .1;

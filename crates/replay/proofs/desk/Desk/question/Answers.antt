@@ -11,6 +11,6 @@ returns g c =
     let u = now (c .args .self) .receiver .sub in
     let o = g .S·Store .setup (now (c .args .store)) in
     record {
-      answer = c .question .ensures;
+      answer = c .standing .ensures;
       guarantee = c .recovery-stands .ensures .present o (openingOf u) (stateIn (g .S·Store .kind o) u (now (c .args .self) .receiver .plain) (g .S·Store .model (now (c .args .store))) (now (c .args .shelf))) (c .args .instrument);
     }
