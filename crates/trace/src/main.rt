@@ -1,5 +1,10 @@
+mod lines;
+mod serving;
 mod session;
+mod shows;
+mod telling;
 
+use crate::lines::Lines;
 use crate::session::Session;
 use std::error::AnyError;
 use std::io::Read;
@@ -9,17 +14,17 @@ fn run(rt: &LibcRuntime) -> Result<(), AnyError> {
     let _ = rt.stdin().read_to_end(&mut input)?;
     let mut session = Session::new(rt.alloc())?;
     let mut out = String::new(rt.alloc());
-    let mut rest = input.as_slice();
-    let mut number: usize = 0;
-    while !rest.is_empty() {
-        let (line, after) = session::first_line(rest);
-        number = number.saturating_add(1);
-        session.answer(line, number, &mut out)?;
-        if out.len() > 65536 {
-            rt.print(out.as_str())?;
-            out.clear();
+    let mut lines = Lines {
+        rest: input.as_slice(),
+        number: 0,
+    };
+    let mut more = serving::idle(rt, &mut session, &mut lines, &mut out)?;
+    // each opening has a line of its own, so that there are at most as many as bytes
+    for _ in 0..input.len() {
+        if !more {
+            break;
         }
-        rest = after;
+        more = serving::begin(rt, &mut session, &mut lines, &mut out)?;
     }
     rt.print(out.as_str())?;
     Ok(())

@@ -1,0 +1,4 @@
+pub mod Decimal
+pub mod Verbs
+pub mod Spoken
+pub mod Digest
