@@ -1,1 +1,2 @@
 pub mod FrameProofs
+pub mod BookProofs
