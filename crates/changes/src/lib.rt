@@ -1,3 +1,5 @@
+#![tactic(auto)]
+
 pub mod due;
 pub mod named;
 pub mod naming;

@@ -1,3 +1,5 @@
+#![tactic(auto)]
+
 pub mod command;
 pub mod digest;
 pub mod number;

@@ -1,3 +1,5 @@
+#![tactic(auto)]
+
 ghost use Rattle.recovery.specs.Pattern.{two_templates};
 ghost use Rattle.recovery.specs.Points.{Worked, Points};
 ghost use Rattle.fixed_points.specs.Books.{BookPoints};

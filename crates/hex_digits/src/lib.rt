@@ -1,3 +1,5 @@
+#![tactic(auto)]
+
 ghost use Rattle.std.specs.Prelude.{◌≡◌, true, false, [], ◌++◌, length, IfOk, Some, None, MatchOption};
 ghost use Rattle.hex_digits.specs.Hex.{digit_of, byte_of, digits_of, word_bytes};
 

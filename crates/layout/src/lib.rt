@@ -1,3 +1,5 @@
+#![tactic(auto)]
+
 pub mod find;
 pub mod kinds;
 pub mod making;

@@ -1,3 +1,5 @@
+#![tactic(auto)]
+
 pub mod fields;
 pub mod message;
 pub mod values;

@@ -1,3 +1,5 @@
+#![tactic(auto)]
+
 pub mod endpoint;
 pub mod fault;
 pub mod options;

@@ -1,3 +1,5 @@
+#![tactic(auto)]
+
 pub mod checked;
 pub mod fault;
 pub mod group;

@@ -1,4 +1,6 @@
 // A list by position at the front of a lent slice: its first n elements, at positions 1 to n.
+#![tactic(auto)]
+
 ghost use Rattle.std.specs.Prelude.{◌≡◌, ◌+◌, ◌-◌, ◌<◌, ◌≤◌, true, false, ◌∷◌, ◌++◌, length, take, drop};
 ghost use Rattle.positions.specs.Positions.{fits_insert, fits_cut, fits_change, inserted_at, changed_at, cut_out};
 

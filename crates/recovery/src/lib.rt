@@ -1,3 +1,5 @@
+#![tactic(auto)]
+
 pub mod answers;
 pub mod fault;
 pub mod guarantee;

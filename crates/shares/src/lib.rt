@@ -1,2 +1,4 @@
+#![tactic(auto)]
+
 pub mod noting;
 pub mod share;

@@ -1,3 +1,5 @@
+#![tactic(auto)]
+
 mod building;
 pub mod filling;
 mod follows;

@@ -1,3 +1,5 @@
+#![tactic(auto)]
+
 pub mod counts;
 pub mod tally;
 #[cfg(test)]

@@ -1,3 +1,5 @@
+#![tactic(auto)]
+
 mod drain;
 mod report;
 mod sums;

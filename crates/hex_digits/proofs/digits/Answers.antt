@@ -6,9 +6,9 @@ use Rattle.hex_digits.proofs.digits.Goals as goal
 pub loop-i-init : goal.loop-i-init
 loop-i-init c = (omega arith, start (vec_items c.args.out.now) (digits_of c.args.word.now) c.requires)
 
-pub returns-in-default : goal.returns-in-default
-returns-in-default c =
-    none_case _ _ _ (stop c.args.word.now c.loop-i.i (vec_items c.loop-i.out) _ (omega arith) c.in-default.ensures c.loop-i.invariant.1) (refl, c.clear.ensures.items)
+pub returns-in_default : goal.returns-in_default
+returns-in_default c =
+    none_case _ _ _ (stop c.args.word.now c.loop-i.i (vec_items c.loop-i.out) _ (omega arith) c.in_default.ensures c.loop-i.invariant.1) (refl, c.clear.ensures.items)
 
 pub loop-i-preserved : goal.loop-i-preserved
 loop-i-preserved c =

@@ -7,7 +7,7 @@ returns g c =
     let t = c.args.table.now in
     let n = c.args.n in
     let k = c.args.k in
-    let e = c.copy-within.ensures.after in
+    let e = c.copy_within.ensures.after in
     record {
       list = ap (λ l. take (n + 1) (set l k c.args.x)) e ∙ insert_list t n k c.args.x c.requires.0 c.requires.1;
       rest = ap (λ l. drop (n + 1) (set l k c.args.x)) e ∙ insert_rest t n k c.args.x c.requires.0 c.requires.1;

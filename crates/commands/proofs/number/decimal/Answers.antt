@@ -2,14 +2,14 @@ use Rattle.std.proofs.Common.{◌≡◌, false, eqb, length, sym, ◌∙◌, ari
 use Rattle.commands.proofs.Figures.{figures-more, figures-none, figures-all}
 use Rattle.commands.proofs.number.decimal.Goals as goal
 
-pub returns-in-default : goal.returns-in-default
-returns-in-default c =
+pub returns-in_default : goal.returns-in_default
+returns-in_default c =
     let h : eqb (length c.args.word.now) 0 ≡ false = cc in
-    figures-none c.loop-d.n c.loop-d.d-index c.args.word.now h c.loop-d-test.true (sym c.one-figure.ensures ∙ c.in-default.is) c.loop-d.invariant
+    figures-none c.loop-d.n c.loop-d.d-index c.args.word.now h c.loop-d-test.true (sym c.one_figure.ensures ∙ c.in_default.is) c.loop-d.invariant
 
 pub loop-d-preserved : goal.loop-d-preserved
 loop-d-preserved c =
-    figures-more c.loop-d.n c.loop-d.d-index c.in-Some.m c.args.word.now c.loop-d-test.true (sym c.one-figure.ensures ∙ c.in-Some.is) c.loop-d.invariant
+    figures-more c.loop-d.n c.loop-d.d-index c.in-Some.m c.args.word.now c.loop-d-test.true (sym c.one_figure.ensures ∙ c.in-Some.is) c.loop-d.invariant
 
 pub returns : goal.returns
 returns c =

@@ -32,4 +32,4 @@ returns c =
           above-here c.args.n c.args.p w.index.result.now xs _ here (grind (arith, w.if-low-n.false, w.if-n-low.false)))
       | else-p-len w ↦ above-none c.args.n c.args.p xs (omega (arith, w.if-p-len.false, c.len.ensures, c.args.spans.now.ok.0))
     ])
-    c.in-ok-insert.ensures.items
+    c.in_ok-insert.ensures.items

@@ -19,4 +19,4 @@ returns-then-same-2 c =
 pub returns : goal.returns
 returns c =
     let w = c.args.word.now in
-    neither_of (bytes_eq w (codes "--incremental")) (bytes_eq w (codes "--snapshot")) (Names Incremental) (Names Snapshot) (extent_of w) c.extent-of.result c.if-same.ensures c.if-same-2.ensures c.extent-of.ensures
+    neither_of (bytes_eq w (codes "--incremental")) (bytes_eq w (codes "--snapshot")) (Names Incremental) (Names Snapshot) (extent_of w) c.extent_of.result c.if-same.ensures c.if-same-2.ensures c.extent_of.ensures

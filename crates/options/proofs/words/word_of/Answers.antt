@@ -19,4 +19,4 @@ returns-then-same-2 c =
 pub returns : goal.returns
 returns c =
     let w = c.args.word.now in
-    neither_of (bytes_eq w (codes "--channel")) (bytes_eq w (codes "--version")) (Names Channel) (Names Version) (feed_of w) c.feed-of.result c.if-same.ensures c.if-same-2.ensures c.feed-of.ensures
+    neither_of (bytes_eq w (codes "--channel")) (bytes_eq w (codes "--version")) (Names Channel) (Names Version) (feed_of w) c.feed_of.result c.if-same.ensures c.if-same-2.ensures c.feed_of.ensures

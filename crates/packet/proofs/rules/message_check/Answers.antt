@@ -16,13 +16,13 @@ judged s bs at h l r a e b d =
     ∙ (ap (λ n. and_then (layout_check (Some l) (take n bs) h.block at) (λ _. Ok h.length)) (sub-zero h.length)
     ∙ (ap (λ o. and_then (layout_check o (take h.length bs) h.block at) (λ _. Ok h.length)) (sym b) ∙ sym (message_by_head s bs at h a e)))
 
-pub returns-in-err-layout-check : goal.returns-in-err-layout-check
-returns-in-err-layout-check c =
-    let p = err_from_is_err_and c.from-residual-in-err-layout-check.result c.from-residual-in-err-layout-check.ensures.1 in
-    let said = c.in-ok-length.ensures.value in
-    rw (p.1, p.2) (record { bounds = tt; value = judged c.args.sheet.now c.args.rest.now c.args.at c.in-ok-length.field-0 c.in-Some.t.now.layout (Err c.in-err-layout-check.field-0.0) said.0 said.1 c.in-Some.ensures c.in-err-layout-check.ensures })
+pub returns-in_err-layout_check : goal.returns-in_err-layout_check
+returns-in_err-layout_check c =
+    let p = err_from_is_err_and c.from-residual-in_err-layout_check.result c.from-residual-in_err-layout_check.ensures.1 in
+    let said = c.in_ok-length.ensures.value in
+    rw (p.1, p.2) (record { bounds = tt; value = judged c.args.sheet.now c.args.rest.now c.args.at c.in_ok-length.field-0 c.in-Some.t.now.layout (Err c.in_err-layout_check.field-0.0) said.0 said.1 c.in-Some.ensures c.in_err-layout_check.ensures })
 
-pub returns-in-ok-layout-check : goal.returns-in-ok-layout-check
-returns-in-ok-layout-check c =
-    let said = c.in-ok-length.ensures.value in
-    record { bounds = search rules; value = judged c.args.sheet.now c.args.rest.now c.args.at c.in-ok-length.field-0 c.in-Some.t.now.layout (Ok tt) said.0 said.1 c.in-Some.ensures c.in-ok-layout-check.ensures }
+pub returns-in_ok-layout_check : goal.returns-in_ok-layout_check
+returns-in_ok-layout_check c =
+    let said = c.in_ok-length.ensures.value in
+    record { bounds = search rules; value = judged c.args.sheet.now c.args.rest.now c.args.at c.in_ok-length.field-0 c.in-Some.t.now.layout (Ok tt) said.0 said.1 c.in-Some.ensures c.in_ok-layout_check.ensures }

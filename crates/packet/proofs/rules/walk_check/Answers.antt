@@ -5,23 +5,23 @@ use Rattle.packet.specs.Rules.{message_check, walk_check}
 use Rattle.packet.proofs.Walks.{walk_step, walk_stop, walk_end}
 use Rattle.packet.proofs.rules.walk_check.Goals as goal
 
-pub returns-in-err-at : goal.returns-in-err-at
-returns-in-err-at c =
+pub returns-in_err-at : goal.returns-in_err-at
+returns-in_err-at c =
     let bs = c.args.bytes.now in
     let at = c.loop_at.at in
     let p = err_from_is_err_and c.from-residual.result c.from-residual.ensures.1 in
     let some : 0 < length (drop at bs) = simp length-drop (omega arith) in
-    let said = c.in-err-at.ensures.value ∙ ap (λ l. message_check c.args.sheet.now l at) (take_rest bs at) in
+    let said = c.in_err-at.ensures.value ∙ ap (λ l. message_check c.args.sheet.now l at) (take_rest bs at) in
     rw (p.1, p.2) (sym (walk_stop _ (drop at bs) at _ some said) ∙ c.loop_at.invariant.2)
 
 pub loop-at-preserved : goal.loop-at-preserved
 loop-at-preserved c =
     let bs = c.args.bytes.now in
     let at = c.loop_at.at in
-    let n = c.in-ok-at.field-0 in
+    let n = c.in_ok-at.field-0 in
     let some : 0 < length (drop at bs) = simp length-drop (omega arith) in
-    let said = c.in-ok-at.ensures.value ∙ ap (λ l. message_check c.args.sheet.now l at) (take_rest bs at) in
-    let bounds = c.in-ok-at.ensures.bounds in
+    let said = c.in_ok-at.ensures.value ∙ ap (λ l. message_check c.args.sheet.now l at) (take_rest bs at) in
+    let bounds = c.in_ok-at.ensures.bounds in
     let long = ap length (take_rest bs at) ∙ length-drop at bs in
     let step = walk_step c.args.sheet.now (drop at bs) at n some (omega arith) said in
     (omega arith, omega arith, sym (step ∙ ap (λ l. walk_check c.args.sheet.now 0 l (at + n)) (drop-drop n at bs)) ∙ c.loop_at.invariant.2)

@@ -42,7 +42,7 @@ loop-m-preserved g c =
 pub returns : goal.returns
 returns g c =
     let m = g.S.Store in let u = c.args.sub.now in let K = m.kind (m.setup c.args.store.now) in let o = opening_of u in let b = c.args.shelf.now in
-    let q = ahead-end K o _ _ _ _ _ c.loop-m.invariant.0 c.in-default.ensures.step in
+    let q = ahead-end K o _ _ _ _ _ c.loop-m.invariant.0 c.in_default.ensures.step in
     let s₀ = state_in K u c.args.plain.now (m.model c.args.store.now) b in
     let all = ap₂ (λ y z. messages_from y 0 z) c.walk-walk.ensures.0 c.walk-walk.ensures.1 in
     record {

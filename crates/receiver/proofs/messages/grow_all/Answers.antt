@@ -17,8 +17,8 @@ returns-then-grow g c =
     let q = come_adopted K o c.args.i c.args.l.now _ _ _ c.in-Some.e.now _ (state_in K u p s b) (state_in K u p' s' b) c.loop-e.invariant.0 c.in-Some.ensures step c.grow.result log c.if-grow.true (c.grow.ensures.closed c.if-grow.true) in
     let s₀ = state_in K u c.args.plain.now (m.model c.args.store.now) b in
     record {
-      state = q.0 ∙ ap (λ z. event_steps K o (entries_for c.args.i c.args.l.now z) s₀) c.entries-of-entries.ensures;
-      log = ap (λ z. length (event_logs K o (entries_for c.args.i c.args.l.now z) s₀)) (sym c.entries-of-entries.ensures) ∙ q.1;
+      state = q.0 ∙ ap (λ z. event_steps K o (entries_for c.args.i c.args.l.now z) s₀) c.entries_of-entries.ensures;
+      log = ap (λ z. length (event_logs K o (entries_for c.args.i c.args.l.now z) s₀)) (sym c.entries_of-entries.ensures) ∙ q.1;
       attends = c.grow.ensures.attends;
       stays = c.grow.ensures.stays ∙ c.loop-e.invariant.2;
     }
@@ -38,11 +38,11 @@ loop-e-preserved g c =
 pub returns : goal.returns
 returns g c =
     let m = g.S.Store in let u = c.args.sub.now in let K = m.kind (m.setup c.args.store.now) in let o = opening_of u in let b = c.args.shelf.now in
-    let q = come_end K o c.args.i c.args.l.now _ _ _ _ c.loop-e.invariant.0 c.in-default.ensures in
+    let q = come_end K o c.args.i c.args.l.now _ _ _ _ c.loop-e.invariant.0 c.in_default.ensures in
     let s₀ = state_in K u c.args.plain.now (m.model c.args.store.now) b in
     record {
-      state = q.0 ∙ ap (λ z. event_steps K o (entries_for c.args.i c.args.l.now z) s₀) c.entries-of-entries.ensures;
-      log = ap (λ z. length (event_logs K o (entries_for c.args.i c.args.l.now z) s₀)) (sym c.entries-of-entries.ensures) ∙ q.1;
+      state = q.0 ∙ ap (λ z. event_steps K o (entries_for c.args.i c.args.l.now z) s₀) c.entries_of-entries.ensures;
+      log = ap (λ z. length (event_logs K o (entries_for c.args.i c.args.l.now z) s₀)) (sym c.entries_of-entries.ensures) ∙ q.1;
       attends = c.loop-e.invariant.1;
       stays = c.loop-e.invariant.2;
     }

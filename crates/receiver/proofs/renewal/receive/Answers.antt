@@ -6,8 +6,8 @@ use Rattle.receiver.proofs.Accepted.{accepted}
 use Rattle.receiver.proofs.Laying.{part_here, receives}
 use Rattle.receiver.proofs.renewal.receive.Goals as goal
 
-pub head-of-requires : goal.head-of-requires
-head-of-requires g c = (accepted (opening_of c.args.sub.now) _ _ (length c.args.shelf.now) c.args.bytes.now _ c.requires).whole
+pub head_of-requires : goal.head_of-requires
+head_of-requires g c = (accepted (opening_of c.args.sub.now) _ _ (length c.args.shelf.now) c.args.bytes.now _ c.requires).whole
 
 pub lay-requires : goal.lay-requires
 lay-requires g c = let a = accepted (opening_of c.args.sub.now) _ _ (length c.args.shelf.now) c.args.bytes.now _ c.requires in (a.long, a.small)
@@ -30,7 +30,7 @@ pub returns : goal.returns
 returns g c =
     let a = accepted (opening_of c.args.sub.now) _ _ (length c.args.shelf.now) c.args.bytes.now _ c.requires in
     let e = c.shelve.ensures in let q = c.from-q.result in let bs = c.args.bytes.now in
-    let is : q ≡ (packet_head bs).number = c.from-q.ensures ∙ ap (λ h. h.number) c.head-of.ensures in
+    let is : q ≡ (packet_head bs).number = c.from-q.ensures ∙ ap (λ h. h.number) c.head_of.ensures in
     let pos : 0 < q = subst (λ n. 0 < n) (sym is) a.counted in
     let late : c.args.plain.now.places.heard < q + 32 = subst (λ n. c.args.plain.now.places.heard < n + 32) (sym is) a.near in
     record {

@@ -19,7 +19,7 @@ returns-in-Some g c =
     let j : Join = c.in-Some.join in
     let e : j.own ≡ u.own = tied-own p.joined u.own c.args.held.now j c.in-Some.is c.requires in
     record {
-      answer = c.snapshot-answer.ensures ∙ ap of_snapshot (c.snapshot.ensures.answer ∙ ap (λ (x : ℕ). snapshot_answer K (opening_of u) x room bytes s) e);
+      answer = c.snapshot_answer.ensures ∙ ap of_snapshot (c.snapshot.ensures.answer ∙ ap (λ (x : ℕ). snapshot_answer K (opening_of u) x room bytes s) e);
       state = c.snapshot.ensures.state ∙ ap (λ (x : ℕ). snapshot_step K (opening_of u) x room bytes s) e;
       opening = c.snapshot.ensures.opening;
       joined = ap (λ (x : State g.S.Store.Value g.S.Store.Owed). x.plain.joined) c.snapshot.ensures.state ∙ snapshot_stays K (opening_of u) j.own room bytes s;

@@ -17,14 +17,14 @@ loop-n-preserved-then-stood g c =
       lows_take _ w _ _ _ _ _ _ _ c.loop-n.invariant.3 c.take.ensures.books,
     )
 
-pub returns-then-saturating-sub-ge33 : goal.returns-then-saturating-sub-ge33
-returns-then-saturating-sub-ge33 g c = let m = g.S.Store in record {
+pub returns-then-saturating_sub-ge33 : goal.returns-then-saturating_sub-ge33
+returns-then-saturating_sub-ge33 g c = let m = g.S.Store in record {
   books = inv_end _ (watch_of c.args.w.now) c.args.sheet.now c.args.places.now c.args.shelf.now c.loop-n.n _ _ _ _ c.loop-n.invariant.1 _ _ _ (ap m.kind c.loop-n.invariant.2) (omega arith) c.note_all.ensures.books;
   stays = c.note_all.ensures.stays ∙ c.loop-n.invariant.2;
 }
 
-pub returns-else-saturating-sub-ge33 : goal.returns-else-saturating-sub-ge33
-returns-else-saturating-sub-ge33 g c = let w = watch_of c.args.w.now in record {
+pub returns-else-saturating_sub-ge33 : goal.returns-else-saturating_sub-ge33
+returns-else-saturating_sub-ge33 g c = let w = watch_of c.args.w.now in record {
   books = inv_end _ w c.args.sheet.now c.args.places.now c.args.shelf.now c.loop-n.n _ _ _ _ c.loop-n.invariant.1 _ _ _ refl (omega arith) (lows_aged _ w _ _ _ _ c.loop-n.invariant.3 (omega arith));
   stays = c.loop-n.invariant.2;
 }

@@ -10,8 +10,8 @@ returns-in-Some-slot g c = let w = c.args.w.now in record {
   stays = c.heed.ensures.stays;
 }
 
-pub returns-in-default-slot : goal.returns-in-default-slot
-returns-in-default-slot g c = let w = c.args.w.now in record {
-  books = hand_none _ (watch_of w) _ _ c.args.n (view c.args.m.now) _ w.apart c.in-Some.ensures c.in-default-slot.ensures;
+pub returns-in_default-slot : goal.returns-in_default-slot
+returns-in_default-slot g c = let w = c.args.w.now in record {
+  books = hand_none _ (watch_of w) _ _ c.args.n (view c.args.m.now) _ w.apart c.in-Some.ensures c.in_default-slot.ensures;
   stays = refl;
 }

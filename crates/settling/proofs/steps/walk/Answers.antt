@@ -19,7 +19,7 @@ loop-m-preserved g c =
 pub returns : goal.returns
 returns g c =
     let m = g.S.Store in let k = m.kind (m.setup c.args.store.now) in
-    let done = like k (watch_of c.args.w.now) c.loop-m.invariant.0 (feeds-end c.args.n _ c.in-default.ensures.step) in
+    let done = like k (watch_of c.args.w.now) c.loop-m.invariant.0 (feeds-end c.args.n _ c.in_default.ensures.step) in
     record {
       books = subst (λ z. Each k (watch_of c.args.w.now) (feeds c.args.n z) c.args.marks.now.at (m.model c.args.store.now) c.loop-m.marks.at (m.model c.loop-m.store))
           (ap₂ (λ a b. messages_from a 0 b) c.walk-walk.ensures.0 c.walk-walk.ensures.1) done;

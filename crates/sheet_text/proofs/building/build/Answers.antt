@@ -8,7 +8,7 @@ use Rattle.sheet_text.specs.Meaning.{template_of, listing}
 use Rattle.sheet_text.proofs.Searches.{blank}
 use Rattle.sheet_text.proofs.Builds.{build_takes, build_more, build_same}
 use Rattle.sheet_text.proofs.building.build.Goals as goal
-use Rattle.sheet_text.proofs.building.build.Goals.{then-not-is-listed, else-not-is-listed}
+use Rattle.sheet_text.proofs.building.build.Goals.{then-not-is_listed, else-not-is_listed}
 
 pub loop-i-init : goal.loop-i-init
 loop-i-init c =
@@ -20,17 +20,17 @@ loop-i-preserved c =
     let xs = c.args.lines.now in
     let i = c.loop-i.i in
     let inv = c.loop-i.invariant in
-    let was : c.is-listed.result ≡ listed (take i xs) (get_or xs i blank).template = c.is-listed.ensures ∙ ap (λ k. listed (take k xs) (get_or xs i blank).template) (sub-zero i) in
-    elim c.if-not-is-listed.branch [
-      | then-not-is-listed w ↦
-          (let new = sym was ∙ w.if-not-is-listed.true in
-          let ok : w.add-template.result ≡ true = w.add-template.ensures.taken ∙ build_takes xs (vec_items c.loop-i.sheet.templates) i blank c.requires.kept c.loop-i-test.true new inv.1 in (
-            ap (λ s. s.actions) w.sheet-is ∙ (w.add-template.ensures.actions ∙ inv.0),
-            build_more xs _ _ i blank c.loop-i-test.true new inv.1 (ap (λ s. listing (vec_items s.templates)) w.sheet-is ∙ (w.add-template.ensures.templates ∙ cond-true _ _ _ ok)),
+    let was : c.is_listed.result ≡ listed (take i xs) (get_or xs i blank).template = c.is_listed.ensures ∙ ap (λ k. listed (take k xs) (get_or xs i blank).template) (sub-zero i) in
+    elim c.if-not-is_listed.branch [
+      | then-not-is_listed w ↦
+          (let new = sym was ∙ w.if-not-is_listed.true in
+          let ok : w.add_template.result ≡ true = w.add_template.ensures.taken ∙ build_takes xs (vec_items c.loop-i.sheet.templates) i blank c.requires.kept c.loop-i-test.true new inv.1 in (
+            ap (λ s. s.actions) w.sheet-is ∙ (w.add_template.ensures.actions ∙ inv.0),
+            build_more xs _ _ i blank c.loop-i-test.true new inv.1 (ap (λ s. listing (vec_items s.templates)) w.sheet-is ∙ (w.add_template.ensures.templates ∙ cond-true _ _ _ ok)),
           ))
-      | else-not-is-listed w ↦ (
+      | else-not-is_listed w ↦ (
         ap (λ s. s.actions) w.sheet-is ∙ inv.0,
-        ap (λ s. listing (vec_items s.templates)) w.sheet-is ∙ build_same xs _ i blank c.loop-i-test.true (sym was ∙ w.if-not-is-listed.false) inv.1,
+        ap (λ s. listing (vec_items s.templates)) w.sheet-is ∙ build_same xs _ i blank c.loop-i-test.true (sym was ∙ w.if-not-is_listed.false) inv.1,
       )
     ]
 

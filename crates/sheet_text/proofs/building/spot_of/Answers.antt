@@ -19,4 +19,4 @@ loop-x-preserved c =
 
 pub returns : goal.returns
 returns c =
-    c.spare-spot.ensures ∙ (sym (at_drop_all (λ l. spot_of l c.args.template c.args.field) c.args.lines.now c.loop-x.x-index (omega arith)) ∙ c.loop-x.invariant)
+    c.spare_spot.ensures ∙ (sym (at_drop_all (λ l. spot_of l c.args.template c.args.field) c.args.lines.now c.loop-x.x-index (omega arith)) ∙ c.loop-x.invariant)

@@ -5,7 +5,7 @@ use Rattle.sheet_text.specs.Follows.{listed, firsts}
 use Rattle.sheet_text.proofs.Searches.{blank, tally, counts, stays}
 use Rattle.sheet_text.proofs.Firsts.{firsts_more, length_new}
 use Rattle.sheet_text.proofs.follows.count_templates.Goals as goal
-use Rattle.sheet_text.proofs.follows.count_templates.Goals.{then-not-is-listed, else-not-is-listed}
+use Rattle.sheet_text.proofs.follows.count_templates.Goals.{then-not-is_listed, else-not-is_listed}
 
 pub loop-i-preserved : goal.loop-i-preserved
 loop-i-preserved c =
@@ -13,10 +13,10 @@ loop-i-preserved c =
     let i = c.loop-i.i in
     let x = get_or xs i blank in
     let rest = firsts (take (i + 1) xs) (drop (i + 1) xs) in
-    let was : c.is-listed.result ≡ listed (take i xs) x.template = c.is-listed.ensures ∙ ap (λ k. listed (take k xs) x.template) (sub-zero i) in
-    tally c.loop-i.n c.if-not-is-listed.n i _ (length rest) _ (not c.is-listed.result) c.loop-i.invariant
+    let was : c.is_listed.result ≡ listed (take i xs) x.template = c.is_listed.ensures ∙ ap (λ k. listed (take k xs) x.template) (sub-zero i) in
+    tally c.loop-i.n c.if-not-is_listed.n i _ (length rest) _ (not c.is_listed.result) c.loop-i.invariant
     (ap length (firsts_more xs i blank c.loop-i-test.true) ∙ (length_new (listed (take i xs) x.template) x rest ∙ ap (λ b. cond (not b) 1 0 + length rest) (sym was)))
-    (elim c.if-not-is-listed.branch [ then-not-is-listed w ↦ counts _ _ _ w.n-is (ap not w.if-not-is-listed.true) | else-not-is-listed w ↦ stays _ _ _ w.n-is (ap not w.if-not-is-listed.false) ])
+    (elim c.if-not-is_listed.branch [ then-not-is_listed w ↦ counts _ _ _ w.n-is (ap not w.if-not-is_listed.true) | else-not-is_listed w ↦ stays _ _ _ w.n-is (ap not w.if-not-is_listed.false) ])
 
 pub returns : goal.returns
 returns c =

@@ -5,4 +5,4 @@ use Rattle.sheet_text.proofs.opening.behind.Goals as goal
 
 pub returns-then-same : goal.returns-then-same
 returns-then-same c =
-    c.in-ok-line.ensures.value ∙ ap (λ l. Some l ∷ rows c.in-ok-line.rest.now) ((bytes_eq-Decides _ _).0 (sym c.same.ensures ∙ c.if-same.true))
+    c.in_ok-line.ensures.value ∙ ap (λ l. Some l ∷ rows c.in_ok-line.rest.now) ((bytes_eq-Decides _ _).0 (sym c.same.ensures ∙ c.if-same.true))

@@ -6,10 +6,10 @@ use Rattle.orders.proofs.Slots.{sound_slot}
 use Rattle.orders.proofs.Answering.{in_slots, fits_slot, put_or_not, same-setup}
 use Rattle.orders.proofs.order_store.OrderStore.apply_at.Goals as goal
 
-pub invariant-of-self : goal.invariant-of-self
-invariant-of-self c =
+pub invariant_of-self : goal.invariant_of-self
+invariant_of-self c =
     let s = c.args.self.now in
-    let k = sound_slot s _ c.args.slot _ (in_slots s c.args.slot c.requires) c.apply-in.ensures.puts in
+    let k = sound_slot s _ c.args.slot _ (in_slots s c.args.slot c.requires) c.apply_in.ensures.puts in
     (k.lens, (s.few, (k.shallow, (k.count, (k.table, (k.within, (k.bids, (k.offers, tt))))))))
 
 pub returns : goal.returns
@@ -17,13 +17,13 @@ returns c =
     let s = c.args.self.now in
     let i = in_slots s c.args.slot c.requires in
     record {
-      fits = c.apply-in.ensures.fits ∙ fits_slot s c.args.slot (meant c.args.m.now) i;
-      after = put_or_not s _ c.args.slot c.apply-in.result (λ v. after_book (setup_of s) v (meant c.args.m.now)) i c.apply-in.ensures.puts;
-      stays = same-setup s _ c.apply-in.ensures.puts.depth;
+      fits = c.apply_in.ensures.fits ∙ fits_slot s c.args.slot (meant c.args.m.now) i;
+      after = put_or_not s _ c.args.slot c.apply_in.result (λ v. after_book (setup_of s) v (meant c.args.m.now)) i c.apply_in.ensures.puts;
+      stays = same-setup s _ c.apply_in.ensures.puts.depth;
     }
 
-pub overflow-add-slot : goal.overflow-add-slot
-overflow-add-slot c = let i = in_slots c.args.self.now c.args.slot c.requires in search rules
+pub overflow_add-slot : goal.overflow_add-slot
+overflow_add-slot c = let i = in_slots c.args.self.now c.args.slot c.requires in search rules
 
-pub apply-in-requires : goal.apply-in-requires
-apply-in-requires c = let i = in_slots c.args.self.now c.args.slot c.requires in search rules
+pub apply_in-requires : goal.apply_in-requires
+apply_in-requires c = let i = in_slots c.args.self.now c.args.slot c.requires in search rules

@@ -7,6 +7,6 @@ pub returns : goal.returns
 returns c =
     let s = c.args.self.now in
     record {
-      after = staged-put (setup_of s) s.rows _ s.slots s.count _ s.owed _ c.clear-book.ensures;
-      stays = same-setup s _ c.clear-book.ensures.depth;
+      after = staged-put (setup_of s) s.rows _ s.slots s.count _ s.owed _ c.clear_book.ensures;
+      stays = same-setup s _ c.clear_book.ensures.depth;
     }

@@ -4,10 +4,10 @@ use Rattle.orders.proofs.Answering.{in_slots, fits_slot}
 use Rattle.orders.proofs.order_store.OrderStore.fits_at.Goals as goal
 
 pub returns : goal.returns
-returns c = c.fits-in.ensures ∙ fits_slot c.args.self.now c.args.slot (meant c.args.m.now) (in_slots c.args.self.now c.args.slot c.requires)
+returns c = c.fits_in.ensures ∙ fits_slot c.args.self.now c.args.slot (meant c.args.m.now) (in_slots c.args.self.now c.args.slot c.requires)
 
-pub overflow-add-slot : goal.overflow-add-slot
-overflow-add-slot c = let i = in_slots c.args.self.now c.args.slot c.requires in search rules
+pub overflow_add-slot : goal.overflow_add-slot
+overflow_add-slot c = let i = in_slots c.args.self.now c.args.slot c.requires in search rules
 
-pub fits-in-requires : goal.fits-in-requires
-fits-in-requires c = let i = in_slots c.args.self.now c.args.slot c.requires in search rules
+pub fits_in-requires : goal.fits_in-requires
+fits_in-requires c = let i = in_slots c.args.self.now c.args.slot c.requires in search rules

@@ -1,8 +1,8 @@
 use Rattle.std.proofs.Common.{arith, rules}
 use Rattle.orders.proofs.order_store.OrderStore.fits_entry.Goals as goal
 
-pub overflow-add-len : goal.overflow-add-len
-overflow-add-len c = let h = c.args.self.now.shallow in let r = c.len.ensures.room in search rules
+pub overflow_add-len : goal.overflow_add-len
+overflow_add-len c = let h = c.args.self.now.shallow in let r = c.len.ensures.room in search rules
 
-pub overflow-add-len-in-49 : goal.overflow-add-len-in-49
-overflow-add-len-in-49 c = let h = c.args.self.now.shallow in let r = c.len-in-49.ensures.room in search rules
+pub overflow_add-len-in-49 : goal.overflow_add-len-in-49
+overflow_add-len-in-49 c = let h = c.args.self.now.shallow in let r = c.len-in-49.ensures.room in search rules

@@ -4,22 +4,22 @@ use Rattle.orders.proofs.Slots.{slot_put, sound_slot}
 use Rattle.orders.proofs.Answering.{in_slots, same-setup}
 use Rattle.orders.proofs.order_store.OrderStore.freshen_at.Goals as goal
 
-pub invariant-of-self : goal.invariant-of-self
-invariant-of-self c =
+pub invariant_of-self : goal.invariant_of-self
+invariant_of-self c =
     let s = c.args.self.now in
-    let k = sound_slot s _ c.args.slot _ (in_slots s c.args.slot c.requires) c.clear-book.ensures in
+    let k = sound_slot s _ c.args.slot _ (in_slots s c.args.slot c.requires) c.clear_book.ensures in
     (k.lens, (s.few, (k.shallow, (k.count, (k.table, (k.within, (k.bids, (k.offers, tt))))))))
 
 pub returns : goal.returns
 returns c =
     let s = c.args.self.now in
     record {
-      after = slot_put (setup_of s) s.rows _ s.slots s.count c.args.slot _ s.owed (in_slots s c.args.slot c.requires) c.clear-book.ensures;
-      stays = same-setup s _ c.clear-book.ensures.depth;
+      after = slot_put (setup_of s) s.rows _ s.slots s.count c.args.slot _ s.owed (in_slots s c.args.slot c.requires) c.clear_book.ensures;
+      stays = same-setup s _ c.clear_book.ensures.depth;
     }
 
-pub overflow-add-slot : goal.overflow-add-slot
-overflow-add-slot c = let i = in_slots c.args.self.now c.args.slot c.requires in search rules
+pub overflow_add-slot : goal.overflow_add-slot
+overflow_add-slot c = let i = in_slots c.args.self.now c.args.slot c.requires in search rules
 
-pub clear-book-requires : goal.clear-book-requires
-clear-book-requires c = let i = in_slots c.args.self.now c.args.slot c.requires in search rules
+pub clear_book-requires : goal.clear_book-requires
+clear_book-requires c = let i = in_slots c.args.self.now c.args.slot c.requires in search rules

@@ -7,4 +7,4 @@ pub returns-then-slot-self : goal.returns-then-slot-self
 returns-then-slot-self c = none-of-none c.args.position ∙ ap (λ xs. at_position xs c.args.position) (none-shown c.args.self.now c.args.slot c.args.side c.if-slot-self.true)
 
 pub returns : goal.returns
-returns c = c.at.ensures ∙ ap (λ xs. at_position xs c.args.position) (row-shown c.args.self.now c.args.slot c.row-at.result c.args.side c.if-slot-self.false c.row-at.ensures)
+returns c = c.at.ensures ∙ ap (λ xs. at_position xs c.args.position) (row-shown c.args.self.now c.args.slot c.row_at.result c.args.side c.if-slot-self.false c.row_at.ensures)

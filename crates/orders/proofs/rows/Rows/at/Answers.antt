@@ -13,8 +13,8 @@ returns-then-position-self c =
     let s = c.args.self.now in
     none_past (row s c.args.r) c.args.position (omega (arith, c.if-position-self.true, row-length s c.args.r c.requires.0 c.requires.1))
 
-pub offset-bounds-self-r-2 : goal.offset-bounds-self-r-2
-offset-bounds-self-r-2 c =
+pub offset_bounds-self-r-2 : goal.offset_bounds-self-r-2
+offset_bounds-self-r-2 c =
     let s = c.args.self.now in
     let h = span_in c.args.r s.count s.depth _ c.requires.1 c.requires.0.table in
     let w = c.requires.0.within c.args.r c.requires.1 in

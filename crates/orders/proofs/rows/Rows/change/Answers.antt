@@ -4,11 +4,11 @@ use Rattle.orders.proofs.Spans.{span_in}
 use Rattle.orders.proofs.Putting.{row-length, part_length, part_row, part_same, either}
 use Rattle.orders.proofs.rows.Rows.change.Goals as goal
 
-pub offset-bounds-self-base : goal.offset-bounds-self-base
-offset-bounds-self-base c = let h = span_in c.args.r c.args.self.now.count c.args.self.now.depth _ c.requires.1 c.requires.0.table in search rules
+pub offset_bounds-self-base : goal.offset_bounds-self-base
+offset_bounds-self-base c = let h = span_in c.args.r c.args.self.now.count c.args.self.now.depth _ c.requires.1 c.requires.0.table in search rules
 
-pub slice-bounds-change-end : goal.slice-bounds-change-end
-slice-bounds-change-end c = let h = span_in c.args.r c.args.self.now.count c.args.self.now.depth _ c.requires.1 c.requires.0.table in search rules
+pub slice_bounds-change-end : goal.slice_bounds-change-end
+slice_bounds-change-end c = let h = span_in c.args.r c.args.self.now.count c.args.self.now.depth _ c.requires.1 c.requires.0.table in search rules
 
 pub returns : goal.returns
 returns c =

@@ -3,8 +3,8 @@ use Rattle.orders.proofs.Spans.{span_in, copied_length, copied_here, copied_belo
 use Rattle.orders.proofs.Putting.{puts}
 use Rattle.orders.proofs.rows.Rows.copy.Goals as goal
 
-pub copy-within-requires : goal.copy-within-requires
-copy-within-requires c =
+pub copy_within-requires : goal.copy_within-requires
+copy_within-requires c =
     let s = c.args.self.now in
     let h = span_in c.args.from s.count s.depth _ c.requires.1 c.requires.0.table in
     let l = span_in c.args.to s.count s.depth _ c.requires.2 c.requires.0.table in
@@ -23,7 +23,7 @@ returns c =
     let h : b + n ≤ length t = omega (arith, span_in c.args.from s.count s.depth _ c.requires.1 c.requires.0.table, w) in
     let l : a + n ≤ length t = omega (arith, span_in c.args.to s.count s.depth _ c.requires.2 c.requires.0.table, w) in
     let k : b + n - b ≡ n = omega arith in
-    let e = c.copy-within.ensures.after in
+    let e = c.copy_within.ensures.after in
     puts s _ c.args.to n _ c.requires.0 c.requires.2 w (ap length e ∙ copied_length t a b n _ k h l)
     (ap (take a) e ∙ copied_below t a b n _ k h l)
     (ap (drop (a + d)) e ∙ copied_above t a b n _ k h l (a + d) (omega (arith, w)))

@@ -5,11 +5,11 @@ use Rattle.orders.proofs.Spans.{span_in}
 use Rattle.orders.proofs.Putting.{row-length, part_length, part_row, part_puts, part_same}
 use Rattle.orders.proofs.rows.Rows.cut.Goals as goal
 
-pub offset-bounds-self-base : goal.offset-bounds-self-base
-offset-bounds-self-base c = let h = span_in c.args.r c.args.self.now.count c.args.self.now.depth _ c.requires.1 c.requires.0.table in search rules
+pub offset_bounds-self-base : goal.offset_bounds-self-base
+offset_bounds-self-base c = let h = span_in c.args.r c.args.self.now.count c.args.self.now.depth _ c.requires.1 c.requires.0.table in search rules
 
-pub slice-bounds-cut-end : goal.slice-bounds-cut-end
-slice-bounds-cut-end c = let h = span_in c.args.r c.args.self.now.count c.args.self.now.depth _ c.requires.1 c.requires.0.table in search rules
+pub slice_bounds-cut-end : goal.slice_bounds-cut-end
+slice_bounds-cut-end c = let h = span_in c.args.r c.args.self.now.count c.args.self.now.depth _ c.requires.1 c.requires.0.table in search rules
 
 pub returns-then-cut : goal.returns-then-cut
 returns-then-cut c =

@@ -4,8 +4,8 @@ use Rattle.orders.proofs.Spans.{span_in}
 use Rattle.orders.proofs.Putting.{row-length, puts}
 use Rattle.orders.proofs.rows.Rows.push.Goals as goal
 
-pub offset-bounds-self-end : goal.offset-bounds-self-end
-offset-bounds-self-end c =
+pub offset_bounds-self-end : goal.offset_bounds-self-end
+offset_bounds-self-end c =
     let h = span_in c.args.r c.args.self.now.count c.args.self.now.depth _ c.requires.1 c.requires.0.table in
     let l = row-length c.args.self.now c.args.r c.requires.0 c.requires.1 in
     search rules

@@ -4,8 +4,8 @@ use Rattle.packet.specs.Rules.{walk_check}
 use Rattle.packet.proofs.Steps.{packet_ok}
 use Rattle.packet.proofs.checked.Checked.walk.Goals as goal
 
-pub invariant-of-result : goal.invariant-of-result
-invariant-of-result c =
+pub invariant_of-result : goal.invariant_of-result
+invariant_of-result c =
     let bs = c.args.self.now.bytes.now in
     let s = c.args.self.now.sheet.now in
     let p = packet_ok s bs c.args.self.now.whole in

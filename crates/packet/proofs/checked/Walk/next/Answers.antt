@@ -4,17 +4,17 @@ use Rattle.packet.proofs.Steps.{Front, front}
 use Rattle.packet.proofs.Handed.{handed, short-end, same_layout}
 use Rattle.packet.proofs.checked.Walk.next.Goals as goal
 
-pub returns-in-default : goal.returns-in-default
-returns-in-default c = record { sheet = refl; step = short-end _ _ _ c.args.self.now.whole c.in-default.ensures.value; place = refl }
+pub returns-in_default : goal.returns-in_default
+returns-in_default c = record { sheet = refl; step = short-end _ _ _ c.args.self.now.whole c.in_default.ensures.value; place = refl }
 
-pub split-at-requires : goal.split-at-requires
-split-at-requires c =
+pub split_at-requires : goal.split_at-requires
+split_at-requires c =
     let h = c.in-Some.ensures.value in
     let f = front _ c.args.self.now.rest.now _ (omega (arith, h.0)) c.args.self.now.whole in
     omega (arith, ap (λ x. x.length) h.1, f.within)
 
-pub invariant-of-self : goal.invariant-of-self
-invariant-of-self c =
+pub invariant_of-self : goal.invariant_of-self
+invariant_of-self c =
     let h = c.in-Some.ensures.value in
     let s = c.args.self.now.sheet.now in
     let bs = c.args.self.now.rest.now in
@@ -22,8 +22,8 @@ invariant-of-self c =
     let f = front s bs at (omega (arith, h.0)) c.args.self.now.whole in
     let n = ap (λ x. x.length) h.1 in
     let near = c.args.self.now.near in
-    let back = c.split-at.ensures.back in
-    let long = c.split-at.ensures.back_len in (
+    let back = c.split_at.ensures.back in
+    let long = c.split_at.ensures.back_len in (
       subst (λ l. is_ok (walk_check s 0 l (at + c.in-Some.field-0.length)) ≡ true) (sym back) (subst (λ k. is_ok (walk_check s 0 (drop k bs) (at + k)) ≡ true) (sym n) f.onward),
       (omega arith, tt),
     )
@@ -31,9 +31,9 @@ invariant-of-self c =
 pub returns : goal.returns
 returns c =
     let h = c.in-Some.ensures.value in
-    let long = c.split-at.ensures.back_len in
+    let long = c.split_at.ensures.back_len in
     record {
       sheet = refl;
-      step = handed c.args.self.now.sheet.now c.args.self.now.rest.now c.args.self.now.at c.in-Some.field-0 _ c.split-at.result.0.now c.split-at.result.1.now c.args.self.now.whole h.0 h.1 c.split-at.ensures.front c.split-at.ensures.back (same_layout (λ t. t.now.layout) c.template.result _ _ c.told.ensures.1 c.template.ensures) c.told.ensures.0;
+      step = handed c.args.self.now.sheet.now c.args.self.now.rest.now c.args.self.now.at c.in-Some.field-0 _ c.split_at.result.0.now c.split_at.result.1.now c.args.self.now.whole h.0 h.1 c.split_at.ensures.front c.split_at.ensures.back (same_layout (λ t. t.now.layout) c.template.result _ _ c.told.ensures.1 c.template.ensures) c.told.ensures.0;
       place = omega arith;
     }

@@ -11,10 +11,10 @@ returns-then-self-eq0 c =
 pub returns : goal.returns
 returns c =
     let s = c.args.self.now in
-    let t = c.note-at.new.self in
+    let t = c.note_at.new.self in
     let yes : ltb 0 c.args.self.now.owed ≡ true = lt-ltb _ _ (omega (arith, c.if-self-eq0.false)) in
     record {
       answer = sym (cond-true _ _ _ yes);
-      after = staged-put s t _ _ c.note-at.ensures ∙ sym (cond-true _ _ _ yes);
-      stays = same-setup s t _ _ c.note-at.ensures;
+      after = staged-put s t _ _ c.note_at.ensures ∙ sym (cond-true _ _ _ yes);
+      stays = same-setup s t _ _ c.note_at.ensures;
     }

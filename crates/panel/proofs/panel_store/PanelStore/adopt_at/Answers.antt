@@ -2,14 +2,14 @@ use Rattle.std.proofs.Common.{rules}
 use Rattle.panel.proofs.Slots.{in_slots, slot_put, same-setup}
 use Rattle.panel.proofs.panel_store.PanelStore.adopt_at.Goals as goal
 
-pub overflow-add-slot : goal.overflow-add-slot
-overflow-add-slot c = let i = in_slots c.args.self.now c.args.slot c.requires in search rules
+pub overflow_add-slot : goal.overflow_add-slot
+overflow_add-slot c = let i = in_slots c.args.self.now c.args.slot c.requires in search rules
 
-pub copy-to-requires : goal.copy-to-requires
-copy-to-requires c = let i = in_slots c.args.self.now c.args.slot c.requires in search rules
+pub copy_to-requires : goal.copy_to-requires
+copy_to-requires c = let i = in_slots c.args.self.now c.args.slot c.requires in search rules
 
 pub returns : goal.returns
 returns c =
     let s = c.args.self.now in
-    let t = c.copy-to.new.self in
-    record { after = slot_put s t c.args.slot _ (in_slots s c.args.slot c.requires) c.copy-to.ensures; stays = same-setup s t _ _ c.copy-to.ensures }
+    let t = c.copy_to.new.self in
+    record { after = slot_put s t c.args.slot _ (in_slots s c.args.slot c.requires) c.copy_to.ensures; stays = same-setup s t _ _ c.copy_to.ensures }

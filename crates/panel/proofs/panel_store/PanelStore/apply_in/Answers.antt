@@ -5,19 +5,19 @@ use Rattle.panel.specs.Model.{setup_of}
 use Rattle.panel.proofs.Slots.{in_slots, put_or_not, same-setup}
 use Rattle.panel.proofs.panel_store.PanelStore.apply_in.Goals as goal
 
-pub overflow-add-slot : goal.overflow-add-slot
-overflow-add-slot c = let i = in_slots c.args.self.now c.args.slot c.requires in search rules
+pub overflow_add-slot : goal.overflow_add-slot
+overflow_add-slot c = let i = in_slots c.args.self.now c.args.slot c.requires in search rules
 
-pub apply-at-requires : goal.apply-at-requires
-apply-at-requires c = let i = in_slots c.args.self.now c.args.slot c.requires in search rules
+pub apply_at-requires : goal.apply_at-requires
+apply_at-requires c = let i = in_slots c.args.self.now c.args.slot c.requires in search rules
 
 pub returns : goal.returns
 returns c =
     let s = c.args.self.now in
-    let t = c.apply-at.new.self in
-    let e = c.apply-at.ensures in
+    let t = c.apply_at.new.self in
+    let e = c.apply_at.ensures in
     record {
       fits = e.fits;
-      after = put_or_not s t c.args.slot c.apply-at.result (λ v. after_panel (setup_of s) v (meant c.args.m.now)) (in_slots s c.args.slot c.requires) e.puts;
+      after = put_or_not s t c.args.slot c.apply_at.result (λ v. after_panel (setup_of s) v (meant c.args.m.now)) (in_slots s c.args.slot c.requires) e.puts;
       stays = same-setup s t _ _ e.puts;
     }

@@ -4,5 +4,5 @@ use Rattle.panel.proofs.panel_store.PanelStore.begin.Goals as goal
 pub returns : goal.returns
 returns c =
     let s = c.args.self.now in
-    let t = c.clear-at.new.self in
-    record { after = staged-put s t _ _ c.clear-at.ensures; stays = same-setup s t _ _ c.clear-at.ensures }
+    let t = c.clear_at.new.self in
+    record { after = staged-put s t _ _ c.clear_at.ensures; stays = same-setup s t _ _ c.clear_at.ensures }

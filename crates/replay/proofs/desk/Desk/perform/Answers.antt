@@ -28,7 +28,7 @@ returns-in-Incremental g c =
       shelf = h.2;
       opening = c.take.ensures.opening;
       stays = c.take.ensures.stays;
-      guarantee = λ i. c.recovery-stands.ensures.present o (opening_of u) t i;
+      guarantee = λ i. c.recovery_stands.ensures.present o (opening_of u) t i;
     }
 
 pub returns-in-Join : goal.returns-in-Join
@@ -49,7 +49,7 @@ returns-in-Join g c =
       shelf = h.2;
       opening = c.enter.ensures.opening;
       stays = refl;
-      guarantee = λ i. c.recovery-stands.ensures.present o (opening_of u) t i;
+      guarantee = λ i. c.recovery_stands.ensures.present o (opening_of u) t i;
     }
 
 pub returns-in-Leave : goal.returns-in-Leave
@@ -70,7 +70,7 @@ returns-in-Leave g c =
       shelf = h.2;
       opening = c.part.ensures.opening;
       stays = refl;
-      guarantee = λ i. c.recovery-stands.ensures.present o (opening_of u) t i;
+      guarantee = λ i. c.recovery_stands.ensures.present o (opening_of u) t i;
     }
 
 pub returns-in-Snapshot : goal.returns-in-Snapshot
@@ -91,7 +91,7 @@ returns-in-Snapshot g c =
       shelf = h.2;
       opening = c.follow.ensures.opening;
       stays = c.follow.ensures.stays;
-      guarantee = λ i. c.recovery-stands.ensures.present o (opening_of u) t i;
+      guarantee = λ i. c.recovery_stands.ensures.present o (opening_of u) t i;
     }
 
 pub returns-in-Question : goal.returns-in-Question
@@ -104,13 +104,13 @@ returns-in-Question g c =
     let room = length c.args.shelf.now in
     let s : State g.S.Store.Value g.S.Store.Owed = state_in K u p m c.args.shelf.now in
     let t : State g.S.Store.Value g.S.Store.Owed = s in
-    let h = performed K (opening_of u) u.own room s t c.args.shelf.now c.args.shelf.now c.standing-answer.result c.args.call (Question c.in-Question.instrument) c.in-Question.is
-    (c.standing-answer.ensures ∙ ap of_standing c.standing.ensures, refl, refl) in
+    let h = performed K (opening_of u) u.own room s t c.args.shelf.now c.args.shelf.now c.standing_answer.result c.args.call (Question c.in-Question.instrument) c.in-Question.is
+    (c.standing_answer.ensures ∙ ap of_standing c.standing.ensures, refl, refl) in
     record {
       answer = h.0;
       state = h.1;
       shelf = h.2;
       opening = refl;
       stays = refl;
-      guarantee = λ i. c.recovery-stands.ensures.present o (opening_of u) t i;
+      guarantee = λ i. c.recovery_stands.ensures.present o (opening_of u) t i;
     }

@@ -11,8 +11,8 @@ use Rattle.replay.specs.Rows.{requests, done, replies}
 use Rattle.replay.proofs.Leading.{leads_all, none_done, continues, recovers}
 use Rattle.replay.proofs.desk.Desk.perform_all.Goals as goal
 
-pub returns-in-err-reserve : goal.returns-in-err-reserve
-returns-in-err-reserve g c =
+pub returns-in_err-reserve : goal.returns-in_err-reserve
+returns-in_err-reserve g c =
     let m = g.S.Store in let setup = m.setup c.args.store.now in
     let u : Subscription = c.args.self.now.receiver.sub in let K : Kind m.Value m.Owed = m.kind setup in let o : Opening = opening_of u in
     let room : ℕ = length c.args.shelf.now in let r = c.from-residual.result in
@@ -28,7 +28,7 @@ returns-in-err-reserve g c =
       stays = refl;
       refused = MatchResult-from_err r _ _ c.from-residual.ensures.0 (λ _. (refl, refl));
       history = continues K o s s (requests u.own room row) h.0;
-      guarantee = recovers K o (m.Image setup) s s (requests u.own room row) h.0 (c.recovery-stands.ensures.present setup o s);
+      guarantee = recovers K o (m.Image setup) s s (requests u.own room row) h.0 (c.recovery_stands.ensures.present setup o s);
     }
 
 pub returns : goal.returns
@@ -37,8 +37,8 @@ returns g c =
     let u : Subscription = c.args.self.now.receiver.sub in let K : Kind m.Value m.Owed = m.kind setup in let o : Opening = opening_of u in
     let row : List Call = requests u.own (length c.args.shelf.now) c.args.calls.now in
     let s : State m.Value m.Owed = state_in K u c.args.self.now.receiver.plain (m.model c.args.store.now) c.args.shelf.now in
-    let t : State m.Value m.Owed = state_in K u c.perform-each.new.self.receiver.plain (m.model c.perform-each.new.store) c.perform-each.new.shelf in
-    let e = c.perform-each.ensures in
+    let t : State m.Value m.Owed = state_in K u c.perform_each.new.self.receiver.plain (m.model c.perform_each.new.store) c.perform_each.new.shelf in
+    let e = c.perform_each.ensures in
     record {
       state = e.state;
       answers = e.answers ∙ ap (λ (y : List Answer). y ++ replies K o s row) c.reserve.ensures.items;
@@ -47,5 +47,5 @@ returns g c =
       stays = e.stays;
       refused = tt;
       history = continues K o s t row e.state;
-      guarantee = recovers K o (m.Image setup) s t row e.state (c.recovery-stands.ensures.present setup o t);
+      guarantee = recovers K o (m.Image setup) s t row e.state (c.recovery_stands.ensures.present setup o t);
     }

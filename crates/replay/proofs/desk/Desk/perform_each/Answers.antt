@@ -19,8 +19,8 @@ loop-call-preserved g c =
     let i : ℕ = c.loop-call.call-index in let row : List Call = c.args.calls.now in
     let x : Call = get_or row i (Incremental (record { ref_ptr = (0, 0); now = [] })) in
     let p = c.loop-call.self.receiver.plain in let s = m.model c.loop-call.store in let b = c.loop-call.shelf in
-    let p' = c.perform-next.new.self.receiver.plain in let s' = m.model c.perform-next.new.store in let b' = c.perform-next.new.shelf in
-    let told = vec_items c.loop-call.answers in let more = vec_items c.perform-next.new.answers in let e = c.perform-next.ensures in
+    let p' = c.perform_next.new.self.receiver.plain in let s' = m.model c.perform_next.new.store in let b' = c.perform_next.new.shelf in
+    let told = vec_items c.loop-call.answers in let more = vec_items c.perform_next.new.answers in let e = c.perform_next.ensures in
     let h₀ = subst (λ (y : ℕ). Steps K (opening_of u) u.own y (state_in K u p s b) (state_in K u p' s' b') b b' told more x) c.loop-call.auto.shelf (e.answer, e.state, e.shelf) in
     let h₁ = subst (λ (v : Subscription). Steps K (opening_of v) v.own n₀ (state_in K v p s b) (state_in K v p' s' b') b b' told more x) c.loop-call.invariant.1 h₀ in
     let h₂ = subst (λ (z : Kind m.Value m.Owed). Steps z (opening_of u₀) u₀.own n₀ (state_in z u₀ p s b) (state_in z u₀ p' s' b') b b' told more x) (ap m.kind c.loop-call.invariant.2) h₁ in (

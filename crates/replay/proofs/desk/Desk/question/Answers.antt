@@ -8,5 +8,5 @@ returns g c =
     let o = g.S.Store.setup c.args.store.now in
     record {
       answer = c.standing.ensures;
-      guarantee = c.recovery-stands.ensures.present o (opening_of u) (state_in (g.S.Store.kind o) u c.args.self.now.receiver.plain (g.S.Store.model c.args.store.now) c.args.shelf.now) c.args.instrument;
+      guarantee = c.recovery_stands.ensures.present o (opening_of u) (state_in (g.S.Store.kind o) u c.args.self.now.receiver.plain (g.S.Store.model c.args.store.now) c.args.shelf.now) c.args.instrument;
     }

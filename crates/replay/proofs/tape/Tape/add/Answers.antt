@@ -5,18 +5,18 @@ use Rattle.replay.specs.Entries.{asked}
 use Rattle.replay.proofs.Spans.{put}
 use Rattle.replay.proofs.tape.Tape.add.Goals as goal
 
-pub returns-in-err-extend-from-slice : goal.returns-in-err-extend-from-slice
-returns-in-err-extend-from-slice c = λ own room. MatchResult-from_err _ _ _ c.from-residual-in-err-extend-from-slice.ensures.0 (λ _.
-    ap₂ (λ (b : List ℕ) (e : List Entry). map (asked own room b) e) c.in-err-extend-from-slice.ensures.items c.reserve.ensures.items)
+pub returns-in_err-extend_from_slice : goal.returns-in_err-extend_from_slice
+returns-in_err-extend_from_slice c = λ own room. MatchResult-from_err _ _ _ c.from-residual-in_err-extend_from_slice.ensures.0 (λ _.
+    ap₂ (λ (b : List ℕ) (e : List Entry). map (asked own room b) e) c.in_err-extend_from_slice.ensures.items c.reserve.ensures.items)
 
-pub invariant-of-self-2 : goal.invariant-of-self-2
-invariant-of-self-2 c = (
-  (put (vec_items c.args.self.now.bytes) _ _ _ (vec_items c.args.self.now.entries) _ _ _ c.args.call c.args.self.now.lies c.in-ok-extend-from-slice.ensures.items
-      c.bytes-in.ensures c.push-reserved.ensures.items c.reserve.ensures.items c.entry-at.ensures c.as-slice-from.ensures.value).0,
+pub invariant_of-self-2 : goal.invariant_of-self-2
+invariant_of-self-2 c = (
+  (put (vec_items c.args.self.now.bytes) _ _ _ (vec_items c.args.self.now.entries) _ _ _ c.args.call c.args.self.now.lies c.in_ok-extend_from_slice.ensures.items
+      c.bytes_in.ensures c.push_reserved.ensures.items c.reserve.ensures.items c.entry_at.ensures c.as_slice-from.ensures.value).0,
   tt,
 )
 
 pub returns : goal.returns
 returns c =
-    (put (vec_items c.args.self.now.bytes) _ _ _ (vec_items c.args.self.now.entries) _ _ _ c.args.call c.args.self.now.lies c.in-ok-extend-from-slice.ensures.items
-    c.bytes-in.ensures c.push-reserved.ensures.items c.reserve.ensures.items c.entry-at.ensures c.as-slice-from.ensures.value).1
+    (put (vec_items c.args.self.now.bytes) _ _ _ (vec_items c.args.self.now.entries) _ _ _ c.args.call c.args.self.now.lies c.in_ok-extend_from_slice.ensures.items
+    c.bytes_in.ensures c.push_reserved.ensures.items c.reserve.ensures.items c.entry_at.ensures c.as_slice-from.ensures.value).1

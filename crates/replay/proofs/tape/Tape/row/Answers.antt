@@ -8,17 +8,17 @@ use Rattle.replay.proofs.tape.Tape.row.Goals as goal
 
 pub loop-entry-preserved : goal.loop-entry-preserved
 loop-entry-preserved c =
-    let entries : List Entry = c.as-slice-entries.result.now in let i : ℕ = c.loop-entry.entry-index in (
+    let entries : List Entry = c.as_slice-entries.result.now in let i : ℕ = c.loop-entry.entry-index in (
       (λ own room.
-          ap (map (request own room)) c.push-reserved.ensures.items
-          ∙ map-append (request own room) (vec_items c.loop-entry.row) (c.call-at.result ∷ [])
-          ∙ ap₂ ◌++◌ (c.loop-entry.invariant.0 own room) (ap (λ (y : Call). y ∷ []) (c.call-at.ensures own room))
-          ∙ sym (ap (map (asked own room c.as-slice-tape.result.now)) (take_more entries i _ c.loop-entry-test.true) ∙ map-append (asked own room c.as-slice-tape.result.now) (take i entries) _)),
-      omega (arith, c.push-reserved.ensures.len, c.loop-entry.invariant.1),
-      omega (arith, c.push-reserved.ensures.capacity, c.loop-entry.invariant.2),
+          ap (map (request own room)) c.push_reserved.ensures.items
+          ∙ map-append (request own room) (vec_items c.loop-entry.row) (c.call_at.result ∷ [])
+          ∙ ap₂ ◌++◌ (c.loop-entry.invariant.0 own room) (ap (λ (y : Call). y ∷ []) (c.call_at.ensures own room))
+          ∙ sym (ap (map (asked own room c.as_slice-tape.result.now)) (take_more entries i _ c.loop-entry-test.true) ∙ map-append (asked own room c.as_slice-tape.result.now) (take i entries) _)),
+      omega (arith, c.push_reserved.ensures.len, c.loop-entry.invariant.1),
+      omega (arith, c.push_reserved.ensures.capacity, c.loop-entry.invariant.2),
     )
 
 pub returns : goal.returns
 returns c = λ own room.
     c.loop-entry.invariant.0 own room
-    ∙ ap₂ (λ (b : List ℕ) (es : List Entry). map (asked own room b) es) c.as-slice-tape.ensures.value (take_all c.loop-entry.entry-index c.as-slice-entries.result.now c.loop-entry-test.false ∙ c.as-slice-entries.ensures.value)
+    ∙ ap₂ (λ (b : List ℕ) (es : List Entry). map (asked own room b) es) c.as_slice-tape.ensures.value (take_all c.loop-entry.entry-index c.as_slice-entries.result.now c.loop-entry-test.false ∙ c.as_slice-entries.ensures.value)

@@ -2,8 +2,8 @@ use Rattle.std.proofs.Common.{◌%◌, ◌∙◌, arith, length-set}
 use Rattle.settling.proofs.Bounds.{bounded}
 use Rattle.settling.proofs.places.Places.shelve.Goals as goal
 
-pub invariant-of-self : goal.invariant-of-self
-invariant-of-self c = let t = c.args.self.now in (
+pub invariant_of-self : goal.invariant_of-self
+invariant_of-self c = let t = c.args.self.now in (
   length-set t.numbers _ _ ∙ t.places,
   (
     length-set t.lengths _ _ ∙ t.sizes,
