@@ -15,7 +15,10 @@ invariant_of-self c =
     let s = c.args.self.now in
     let ts = vec_items s.templates in
     let long : length c.lower.new.first ≡ 256 = ap length c.lower.ensures ∙ (length-set _ _ _ ∙ s.hints) in
-    let room : 40 ≤ vec_capacity c.push_reserved.new.self = omega (arith, s.room, c.push_reserved.ensures.capacity) in (
-      ap (λ l. lawful s.actions l) c.push_reserved.ensures.items ∙ (sym c.may_add.ensures ∙ c.if-not-may_add.false),
-      (near_push ts _ c.args.t s.first _ _ _ s.hints (omega arith) s.near c.from.ensures (c.len-n.ensures ∙ s.templates.ok.0) c.lower.ensures c.push_reserved.ensures.items, (long, (room, tt))),
-    )
+    let room : 40 ≤ vec_capacity c.push_reserved.new.self = omega (arith, s.room, c.push_reserved.ensures.capacity) in
+    record {
+      lawful = ap (λ l. lawful s.actions l) c.push_reserved.ensures.items ∙ (sym c.may_add.ensures ∙ c.if-not-may_add.false);
+      near = near_push ts _ c.args.t s.first _ _ _ s.hints (omega arith) s.near c.from.ensures (c.len-n.ensures ∙ s.templates.ok.0) c.lower.ensures c.push_reserved.ensures.items;
+      hints = long;
+      room = room;
+    }
