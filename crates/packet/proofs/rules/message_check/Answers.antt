@@ -18,7 +18,7 @@ judged s bs at h l r a e b d =
 
 pub returns-in_err-layout_check : goal.returns-in_err-layout_check
 returns-in_err-layout_check c =
-    let p = err_from_is_err_and c.from-residual-in_err-layout_check.result c.from-residual-in_err-layout_check.ensures.1 in
+    let p = err_from_is_err_and c.from_residual-in_err-layout_check.result c.from_residual-in_err-layout_check.ensures.1 in
     let said = c.in_ok-length.ensures.value in
     rw (p.1, p.2) (record { bounds = tt; value = judged c.args.sheet.now c.args.rest.now c.args.at c.in_ok-length.field-0 c.in-Some.t.now.layout (Err c.in_err-layout_check.field-0.0) said.0 said.1 c.in-Some.ensures c.in_err-layout_check.ensures })
 

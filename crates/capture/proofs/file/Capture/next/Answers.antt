@@ -9,10 +9,10 @@ use Rattle.capture.proofs.file.Capture.next.Goals as goal
 pub returns-in_err-step : goal.returns-in_err-step
 returns-in_err-step c =
     let s = c.args.self.now in
-    let p = err_from_is_err_and c.from-residual.result c.from-residual.ensures.1 in
+    let p = err_from_is_err_and c.from_residual.result c.from_residual.ensures.1 in
     let window = rest-least s.bytes.now c.min.result s.at c.min.ensures in
     let fault = left_fault s.format _ s.bytes.now s.at p.0 _ window p.2 (c.in_err-step.ensures.file [] (λ _. refl)) in
-    stepped_fault s _ c.from-residual.result p.0 p.1 fault refl
+    stepped_fault s _ c.from_residual.result p.0 p.1 fault refl
 
 pub returns-in-End : goal.returns-in-End
 returns-in-End c =

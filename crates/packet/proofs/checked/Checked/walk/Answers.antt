@@ -11,7 +11,7 @@ invariant_of-result c =
     let p = packet_ok s bs c.args.self.now.whole in
     let n = ap length (take_rest bs 16) in
     let m = length-drop 16 bs in
-    (subst (λ l. is_ok (walk_check s 0 l 16) ≡ true) (sym (take_rest bs 16)) p.2, (omega arith, tt))
+    record { whole = subst (λ l. is_ok (walk_check s 0 l 16) ≡ true) (sym (take_rest bs 16)) p.2; near = omega arith }
 
 pub returns : goal.returns
 returns c = (refl, take_rest c.args.self.now.bytes.now 16, refl)

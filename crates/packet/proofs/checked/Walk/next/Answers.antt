@@ -23,10 +23,11 @@ invariant_of-self c =
     let n = ap (λ x. x.length) h.1 in
     let near = c.args.self.now.near in
     let back = c.split_at.ensures.back in
-    let long = c.split_at.ensures.back_len in (
-      subst (λ l. is_ok (walk_check s 0 l (at + c.in-Some.field-0.length)) ≡ true) (sym back) (subst (λ k. is_ok (walk_check s 0 (drop k bs) (at + k)) ≡ true) (sym n) f.onward),
-      (omega arith, tt),
-    )
+    let long = c.split_at.ensures.back_len in
+    record {
+      whole = subst (λ l. is_ok (walk_check s 0 l (at + c.in-Some.field-0.length)) ≡ true) (sym back) (subst (λ k. is_ok (walk_check s 0 (drop k bs) (at + k)) ≡ true) (sym n) f.onward);
+      near = omega arith;
+    }
 
 pub returns : goal.returns
 returns c =

@@ -15,18 +15,18 @@ pub returns-in_err-reserve : goal.returns-in_err-reserve
 returns-in_err-reserve g c =
     let m = g.S.Store in let setup = m.setup c.args.store.now in
     let u : Subscription = c.args.self.now.receiver.sub in let K : Kind m.Value m.Owed = m.kind setup in let o : Opening = opening_of u in
-    let room : ℕ = length c.args.shelf.now in let r = c.from-residual.result in
+    let room : ℕ = length c.args.shelf.now in let r = c.from_residual.result in
     let row : List DeskCall = done r c.args.calls.now in
     let s : State m.Value m.Owed = state_in K u c.args.self.now.receiver.plain (m.model c.args.store.now) c.args.shelf.now in
     let h = leads_all K o u.own room s c.args.shelf.now (vec_items c.args.answers.now) row s c.args.shelf.now (vec_items c.args.answers.now) row
-    (none_done r c.args.calls.now c.from-residual.ensures.0) (refl, refl, refl) in
+    (none_done r c.args.calls.now c.from_residual.ensures.0) (refl, refl, refl) in
     record {
       state = h.0;
       answers = c.reserve.ensures.items ∙ h.2;
       shelf = h.1;
       opening = refl;
       stays = refl;
-      refused = MatchResult-from_err r _ _ c.from-residual.ensures.0 (λ _. (refl, refl));
+      refused = MatchResult-from_err r _ _ c.from_residual.ensures.0 (λ _. (refl, refl));
       history = continues K o s s (requests u.own room row) h.0;
       guarantee = recovers K o (m.Image setup) s s (requests u.own room row) h.0 (c.recovery_stands.ensures.present setup o s);
     }

@@ -6,7 +6,7 @@ use Rattle.replay.proofs.Spans.{put}
 use Rattle.replay.proofs.tape.Tape.add.Goals as goal
 
 pub returns-in_err-extend_from_slice : goal.returns-in_err-extend_from_slice
-returns-in_err-extend_from_slice c = λ own room. MatchResult-from_err _ _ _ c.from-residual-in_err-extend_from_slice.ensures.0 (λ _.
+returns-in_err-extend_from_slice c = λ own room. MatchResult-from_err _ _ _ c.from_residual-in_err-extend_from_slice.ensures.0 (λ _.
     ap₂ (λ (b : List ℕ) (e : List Entry). map (asked own room b) e) c.in_err-extend_from_slice.ensures.items c.reserve.ensures.items)
 
 pub invariant_of-self-2 : goal.invariant_of-self-2
