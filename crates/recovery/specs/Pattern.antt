@@ -28,7 +28,7 @@ header_template = record {
 abbrev pub two_templates : Sheet → Sheet
 two_templates s = record {
   actions = record { new = 0; change = 1; topcut = 2; bottomcut = 3 };
-  templates = record { ptr = s.templates.ptr; len = 2; cap = s.templates.cap; heap = s.templates.heap; items = stat_template ∷ header_template ∷ []; ok = (refl, fewer s.templates.cap s.room); small = s.templates.small };
+  templates = record { ptr = s.templates.ptr; len = 2; cap = s.templates.cap; alloc = s.templates.alloc; items = stat_template ∷ header_template ∷ []; ok = (refl, fewer s.templates.cap s.room); small = s.templates.small };
   first = replicate 256 0;
   lawful = refl;
   near = before;

@@ -29,8 +29,8 @@ fn runs() -> u8
 // The recovery guarantee holds of every store: it follows from the laws that a store keeps. The number of its parts.
 pub fn recovery_stands<S: Store>() -> u8
     ensures parts { result ≡ 3 }
-    ensures guarantee { (o : Setup) → Recovery (kind o) (Image o) }
-    ensures present { (o : Setup) (opening : Opening) (s : State Value Owed) (i : ℕ) → Guaranteed (kind o) opening s i (Image o) }
+    ensures guarantee { (o : S.Setup) → Recovery (S.kind o) (S.Image o) }
+    ensures present { (o : S.Setup) (opening : Opening) (s : State S.Value S.Owed) (i : ℕ) → Guaranteed (S.kind o) opening s i (S.Image o) }
 {
     parts()
 }
