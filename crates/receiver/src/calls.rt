@@ -48,9 +48,9 @@ impl Receiver {
     ) -> Result<Incremental, StreamFault>
         ensures answer { result ≡ incremental_answer (opening_of self.old.sub) (plain_of self.old.sub.sheet self.old.plain shelf.old) (length shelf.old) bytes.now }
         ensures shelf { shelf.new ≡ shelf_after (opening_of self.old.sub) (plain_of self.old.sub.sheet self.old.plain shelf.old) bytes.now shelf.old }
-        ensures state { state_in (kind (setup store.old)) self.old.sub self.new.plain (model store.new) shelf.new ≡ incremental_step (kind (setup store.old)) (opening_of self.old.sub) (length shelf.old) bytes.now (state_in (kind (setup store.old)) self.old.sub self.old.plain (model store.old) shelf.old) }
+        ensures state { state_in (S.kind (S.setup store.old)) self.old.sub self.new.plain (S.model store.new) shelf.new ≡ incremental_step (S.kind (S.setup store.old)) (opening_of self.old.sub) (length shelf.old) bytes.now (state_in (S.kind (S.setup store.old)) self.old.sub self.old.plain (S.model store.old) shelf.old) }
         ensures opening { self.new.sub ≡ self.old.sub }
-        ensures stays { setup store.new ≡ setup store.old }
+        ensures stays { S.setup store.new ≡ S.setup store.old }
     {
         match self.sub.judge(&self.plain, shelf.len(), bytes)? {
             Incremental::Repeat => Ok(Incremental::Repeat),

@@ -57,11 +57,11 @@ fn adopt<S: Store>(
     slot: usize,
     g: Group,
 ) -> bool
-    requires { (slot ≡ slot_in (watch_of sub.now.watch) g.security) × ((slot < length (watch_of sub.now.watch)) × ((44800 ≤ length shelf.now) × (is_whole (kind (setup store.old)) (model store.old) ≡ true))) }
-    ensures answer { result ≡ wanted (kind (setup store.old)) (opening_of sub.now) g (state_in (kind (setup store.old)) sub.now plain.old (model store.old) shelf.now) }
-    ensures state { state_in (kind (setup store.old)) sub.now plain.new (model store.new) shelf.now ≡ (if wanted (kind (setup store.old)) (opening_of sub.now) g (state_in (kind (setup store.old)) sub.now plain.old (model store.old) shelf.now) then adopted (kind (setup store.old)) (opening_of sub.now) g (state_in (kind (setup store.old)) sub.now plain.old (model store.old) shelf.now) else state_in (kind (setup store.old)) sub.now plain.old (model store.old) shelf.now) }
+    requires { (slot ≡ slot_in (watch_of sub.now.watch) g.security) × ((slot < length (watch_of sub.now.watch)) × ((44800 ≤ length shelf.now) × (is_whole (S.kind (S.setup store.old)) (S.model store.old) ≡ true))) }
+    ensures answer { result ≡ wanted (S.kind (S.setup store.old)) (opening_of sub.now) g (state_in (S.kind (S.setup store.old)) sub.now plain.old (S.model store.old) shelf.now) }
+    ensures state { state_in (S.kind (S.setup store.old)) sub.now plain.new (S.model store.new) shelf.now ≡ (if wanted (S.kind (S.setup store.old)) (opening_of sub.now) g (state_in (S.kind (S.setup store.old)) sub.now plain.old (S.model store.old) shelf.now) then adopted (S.kind (S.setup store.old)) (opening_of sub.now) g (state_in (S.kind (S.setup store.old)) sub.now plain.old (S.model store.old) shelf.now) else state_in (S.kind (S.setup store.old)) sub.now plain.old (S.model store.old) shelf.now) }
     ensures pending { plain.new.pending ≡ plain.old.pending }
-    ensures stays { setup store.new ≡ setup store.old }
+    ensures stays { S.setup store.new ≡ S.setup store.old }
 {
     if plain.idle(slot, g.last) {
         return false;
@@ -86,11 +86,11 @@ fn decide<S: Store>(
     g: Group,
 ) -> bool
     requires { (slot ≡ slot_in (watch_of sub.now.watch) g.security) × ((slot < length (watch_of sub.now.watch)) × (44800 ≤ length shelf.now)) }
-    ensures state { state_in (kind (setup store.old)) sub.now plain.new (model store.new) shelf.now ≡ decided (kind (setup store.old)) (opening_of sub.now) g (state_in (kind (setup store.old)) sub.now plain.old (model store.old) shelf.now) }
-    ensures log { length (decided_log (kind (setup store.old)) (opening_of sub.now) g (state_in (kind (setup store.old)) sub.now plain.old (model store.old) shelf.now)) ≡ bit result }
+    ensures state { state_in (S.kind (S.setup store.old)) sub.now plain.new (S.model store.new) shelf.now ≡ decided (S.kind (S.setup store.old)) (opening_of sub.now) g (state_in (S.kind (S.setup store.old)) sub.now plain.old (S.model store.old) shelf.now) }
+    ensures log { length (decided_log (S.kind (S.setup store.old)) (opening_of sub.now) g (state_in (S.kind (S.setup store.old)) sub.now plain.old (S.model store.old) shelf.now)) ≡ bit result }
     ensures closed { result ≡ true → plain.new.pending ≡ Closed }
     ensures attends { attended (watch_of sub.now.watch) plain.old.pending ≡ true → attended (watch_of sub.now.watch) plain.new.pending ≡ true }
-    ensures stays { setup store.new ≡ setup store.old }
+    ensures stays { S.setup store.new ≡ S.setup store.old }
 {
     if !store.whole() {
         return false;
@@ -109,10 +109,10 @@ pub(crate) fn begin<S: Store>(
     h: HeaderFields,
 ) -> bool
     requires { 44800 ≤ length shelf.now }
-    ensures state { state_in (kind (setup store.old)) sub.now plain.new (model store.new) shelf.now ≡ event_step (kind (setup store.old)) (opening_of sub.now) (opens i h) (state_in (kind (setup store.old)) sub.now plain.old (model store.old) shelf.now) }
-    ensures log { length (event_log (kind (setup store.old)) (opening_of sub.now) (opens i h) (state_in (kind (setup store.old)) sub.now plain.old (model store.old) shelf.now)) ≡ bit result }
+    ensures state { state_in (S.kind (S.setup store.old)) sub.now plain.new (S.model store.new) shelf.now ≡ event_step (S.kind (S.setup store.old)) (opening_of sub.now) (opens i h) (state_in (S.kind (S.setup store.old)) sub.now plain.old (S.model store.old) shelf.now) }
+    ensures log { length (event_log (S.kind (S.setup store.old)) (opening_of sub.now) (opens i h) (state_in (S.kind (S.setup store.old)) sub.now plain.old (S.model store.old) shelf.now)) ≡ bit result }
     ensures attends { attended (watch_of sub.now.watch) plain.new.pending ≡ true }
-    ensures stays { setup store.new ≡ setup store.old }
+    ensures stays { S.setup store.new ≡ S.setup store.old }
 {
     if let Some(slot) = sub.watch.slot(i) {
         if let Ok(()) = store.stage(&h) {
@@ -138,11 +138,11 @@ pub(crate) fn grow<S: Store>(
     p: &Piece,
 ) -> bool
     requires { (44800 ≤ length shelf.now) × (attended (watch_of sub.now.watch) plain.old.pending ≡ true) }
-    ensures state { state_in (kind (setup store.old)) sub.now plain.new (model store.new) shelf.now ≡ event_step (kind (setup store.old)) (opening_of sub.now) (adds i (piece_meant p.now)) (state_in (kind (setup store.old)) sub.now plain.old (model store.old) shelf.now) }
-    ensures log { length (event_log (kind (setup store.old)) (opening_of sub.now) (adds i (piece_meant p.now)) (state_in (kind (setup store.old)) sub.now plain.old (model store.old) shelf.now)) ≡ bit result }
+    ensures state { state_in (S.kind (S.setup store.old)) sub.now plain.new (S.model store.new) shelf.now ≡ event_step (S.kind (S.setup store.old)) (opening_of sub.now) (adds i (piece_meant p.now)) (state_in (S.kind (S.setup store.old)) sub.now plain.old (S.model store.old) shelf.now) }
+    ensures log { length (event_log (S.kind (S.setup store.old)) (opening_of sub.now) (adds i (piece_meant p.now)) (state_in (S.kind (S.setup store.old)) sub.now plain.old (S.model store.old) shelf.now)) ≡ bit result }
     ensures closed { result ≡ true → plain.new.pending ≡ Closed }
     ensures attends { attended (watch_of sub.now.watch) plain.new.pending ≡ true }
-    ensures stays { setup store.new ≡ setup store.old }
+    ensures stays { S.setup store.new ≡ S.setup store.old }
 {
     match plain.pending {
         Pending::Closed => false,

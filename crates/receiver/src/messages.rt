@@ -30,10 +30,10 @@ fn open_group<S: Store>(
     h: Option<HeaderFields>,
 ) -> bool
     requires { 44800 ≤ length shelf.now }
-    ensures state { state_in (kind (setup store.old)) sub.now plain.new (model store.new) shelf.now ≡ event_steps (kind (setup store.old)) (opening_of sub.now) (opens_for i h) (state_in (kind (setup store.old)) sub.now plain.old (model store.old) shelf.now) }
-    ensures log { length (event_logs (kind (setup store.old)) (opening_of sub.now) (opens_for i h) (state_in (kind (setup store.old)) sub.now plain.old (model store.old) shelf.now)) ≡ bit result }
+    ensures state { state_in (S.kind (S.setup store.old)) sub.now plain.new (S.model store.new) shelf.now ≡ event_steps (S.kind (S.setup store.old)) (opening_of sub.now) (opens_for i h) (state_in (S.kind (S.setup store.old)) sub.now plain.old (S.model store.old) shelf.now) }
+    ensures log { length (event_logs (S.kind (S.setup store.old)) (opening_of sub.now) (opens_for i h) (state_in (S.kind (S.setup store.old)) sub.now plain.old (S.model store.old) shelf.now)) ≡ bit result }
     ensures attends { attended (watch_of sub.now.watch) plain.new.pending ≡ true }
-    ensures stays { setup store.new ≡ setup store.old }
+    ensures stays { S.setup store.new ≡ S.setup store.old }
 {
     match i {
         None => {
@@ -61,10 +61,10 @@ fn grow_all<S: Store>(
     part: &[u8],
 ) -> bool
     requires { (44800 ≤ length shelf.now) × (attended (watch_of sub.now.watch) plain.old.pending ≡ true) }
-    ensures state { state_in (kind (setup store.old)) sub.now plain.new (model store.new) shelf.now ≡ event_steps (kind (setup store.old)) (opening_of sub.now) (entries_for i l.now (entry_parts l.now part.now)) (state_in (kind (setup store.old)) sub.now plain.old (model store.old) shelf.now) }
-    ensures log { length (event_logs (kind (setup store.old)) (opening_of sub.now) (entries_for i l.now (entry_parts l.now part.now)) (state_in (kind (setup store.old)) sub.now plain.old (model store.old) shelf.now)) ≡ bit result }
+    ensures state { state_in (S.kind (S.setup store.old)) sub.now plain.new (S.model store.new) shelf.now ≡ event_steps (S.kind (S.setup store.old)) (opening_of sub.now) (entries_for i l.now (entry_parts l.now part.now)) (state_in (S.kind (S.setup store.old)) sub.now plain.old (S.model store.old) shelf.now) }
+    ensures log { length (event_logs (S.kind (S.setup store.old)) (opening_of sub.now) (entries_for i l.now (entry_parts l.now part.now)) (state_in (S.kind (S.setup store.old)) sub.now plain.old (S.model store.old) shelf.now)) ≡ bit result }
     ensures attends { attended (watch_of sub.now.watch) plain.new.pending ≡ true }
-    ensures stays { setup store.new ≡ setup store.old }
+    ensures stays { S.setup store.new ≡ S.setup store.old }
 {
     let mut entries = entries_of(l, part);
     while let Some(e) = entries.next() {
@@ -84,10 +84,10 @@ fn tell<S: Store>(
     m: &Message,
 ) -> bool
     requires { (44800 ≤ length shelf.now) × (attended (watch_of sub.now.watch) plain.old.pending ≡ true) }
-    ensures state { state_in (kind (setup store.old)) sub.now plain.new (model store.new) shelf.now ≡ event_steps (kind (setup store.old)) (opening_of sub.now) (told (view m.now)) (state_in (kind (setup store.old)) sub.now plain.old (model store.old) shelf.now) }
-    ensures log { length (event_logs (kind (setup store.old)) (opening_of sub.now) (told (view m.now)) (state_in (kind (setup store.old)) sub.now plain.old (model store.old) shelf.now)) ≡ bit result }
+    ensures state { state_in (S.kind (S.setup store.old)) sub.now plain.new (S.model store.new) shelf.now ≡ event_steps (S.kind (S.setup store.old)) (opening_of sub.now) (told (view m.now)) (state_in (S.kind (S.setup store.old)) sub.now plain.old (S.model store.old) shelf.now) }
+    ensures log { length (event_logs (S.kind (S.setup store.old)) (opening_of sub.now) (told (view m.now)) (state_in (S.kind (S.setup store.old)) sub.now plain.old (S.model store.old) shelf.now)) ≡ bit result }
     ensures attends { attended (watch_of sub.now.watch) plain.new.pending ≡ true }
-    ensures stays { setup store.new ≡ setup store.old }
+    ensures stays { S.setup store.new ≡ S.setup store.old }
 {
     let id = security_of(m);
     match *m {
@@ -124,10 +124,10 @@ fn follow<S: Store>(
     packet: Checked,
 ) -> usize
     requires { (44800 ≤ length shelf.now) × (attended (watch_of sub.now.watch) plain.old.pending ≡ true) }
-    ensures state { state_in (kind (setup store.old)) sub.now plain.new (model store.new) shelf.now ≡ message_steps (kind (setup store.old)) (opening_of sub.now) (messages packet.entry.sheet.now packet.entry.bytes.now) (state_in (kind (setup store.old)) sub.now plain.old (model store.old) shelf.now) }
-    ensures log { length (message_logs (kind (setup store.old)) (opening_of sub.now) (messages packet.entry.sheet.now packet.entry.bytes.now) (state_in (kind (setup store.old)) sub.now plain.old (model store.old) shelf.now)) ≡ result }
+    ensures state { state_in (S.kind (S.setup store.old)) sub.now plain.new (S.model store.new) shelf.now ≡ message_steps (S.kind (S.setup store.old)) (opening_of sub.now) (messages packet.entry.sheet.now packet.entry.bytes.now) (state_in (S.kind (S.setup store.old)) sub.now plain.old (S.model store.old) shelf.now) }
+    ensures log { length (message_logs (S.kind (S.setup store.old)) (opening_of sub.now) (messages packet.entry.sheet.now packet.entry.bytes.now) (state_in (S.kind (S.setup store.old)) sub.now plain.old (S.model store.old) shelf.now)) ≡ result }
     ensures attends { attended (watch_of sub.now.watch) plain.new.pending ≡ true }
-    ensures stays { setup store.new ≡ setup store.old }
+    ensures stays { S.setup store.new ≡ S.setup store.old }
 {
     let mut adoptions = 0;
     let mut walk = packet.walk();
@@ -148,10 +148,10 @@ pub(crate) fn follow_bytes<S: Store>(
     bytes: &[u8],
 ) -> usize
     requires { (44800 ≤ length shelf.now) × ((attended (watch_of sub.now.watch) plain.old.pending ≡ true) × (is_ok (packet_check sub.now.sheet bytes.now) ≡ true)) }
-    ensures state { state_in (kind (setup store.old)) sub.now plain.new (model store.new) shelf.now ≡ message_steps (kind (setup store.old)) (opening_of sub.now) (messages sub.now.sheet bytes.now) (state_in (kind (setup store.old)) sub.now plain.old (model store.old) shelf.now) }
-    ensures log { length (message_logs (kind (setup store.old)) (opening_of sub.now) (messages sub.now.sheet bytes.now) (state_in (kind (setup store.old)) sub.now plain.old (model store.old) shelf.now)) ≡ result }
+    ensures state { state_in (S.kind (S.setup store.old)) sub.now plain.new (S.model store.new) shelf.now ≡ message_steps (S.kind (S.setup store.old)) (opening_of sub.now) (messages sub.now.sheet bytes.now) (state_in (S.kind (S.setup store.old)) sub.now plain.old (S.model store.old) shelf.now) }
+    ensures log { length (message_logs (S.kind (S.setup store.old)) (opening_of sub.now) (messages sub.now.sheet bytes.now) (state_in (S.kind (S.setup store.old)) sub.now plain.old (S.model store.old) shelf.now)) ≡ result }
     ensures attends { attended (watch_of sub.now.watch) plain.new.pending ≡ true }
-    ensures stays { setup store.new ≡ setup store.old }
+    ensures stays { S.setup store.new ≡ S.setup store.old }
 {
     follow(plain, store, sub, shelf, Checked::new(&sub.sheet, bytes))
 }

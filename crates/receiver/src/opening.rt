@@ -31,9 +31,9 @@ fn fresh_marks(n: usize) -> Marks
 
 // Freshens the first n slots.
 fn freshen_all<S: Store>(store: &mut S, n: usize)
-    ensures values { (q : ℕ) → value_at (kind (setup store.old)) (model store.new) q ≡ (if nat_lt q n then (kind (setup store.old)).fresh else value_at (kind (setup store.old)) (model store.old) q) }
-    ensures rest { rest_of (kind (setup store.old)) (model store.old) ≡ rest_of (kind (setup store.old)) (model store.new) }
-    ensures stays { setup store.new ≡ setup store.old }
+    ensures values { (q : ℕ) → value_at (S.kind (S.setup store.old)) (S.model store.new) q ≡ (if nat_lt q n then (S.kind (S.setup store.old)).fresh else value_at (S.kind (S.setup store.old)) (S.model store.old) q) }
+    ensures rest { rest_of (S.kind (S.setup store.old)) (S.model store.old) ≡ rest_of (S.kind (S.setup store.old)) (S.model store.new) }
+    ensures stays { S.setup store.new ≡ S.setup store.old }
 {
     for p in 0..n {
         let _ = store.freshen(p);
@@ -65,10 +65,10 @@ impl Receiver {
         own: u64,
         watch: &[u64],
     ) -> Receiver
-        requires { opening_check watch.now version (length (model store.old).slots) ≡ Ok tt }
+        requires { opening_check watch.now version (length (S.model store.old).slots) ≡ Ok tt }
         ensures opening { opening_of result.sub ≡ record { channel = channel; version = version; own = own; watch = watch.now; sheet = sheet } }
-        ensures state { (bytes : List ℕ) → state_in (kind (setup store.old)) result.sub result.plain (model store.new) bytes ≡ opened (kind (setup store.old)) (opening_of result.sub) (model store.old) }
-        ensures stays { setup store.new ≡ setup store.old }
+        ensures state { (bytes : List ℕ) → state_in (S.kind (S.setup store.old)) result.sub result.plain (S.model store.new) bytes ≡ opened (S.kind (S.setup store.old)) (opening_of result.sub) (S.model store.old) }
+        ensures stays { S.setup store.new ≡ S.setup store.old }
     {
         freshen_all(store, watch.len());
         Receiver {

@@ -22,10 +22,10 @@ pub(crate) fn renew<S: Store>(
     known: u64,
 )
     requires { (44800 ≤ length shelf.now) × ((0 < known → is_ok (packet_check sub.now.sheet (part_of plain.old.places.lengths shelf.now known)) ≡ true)) }
-    ensures state { state_in (kind (setup store.old)) sub.now plain.new (model store.new) shelf.now ≡ settled (kind (setup store.old)) (opening_of sub.now) (state_in (kind (setup store.old)) sub.now plain.old (model store.old) shelf.now) }
+    ensures state { state_in (S.kind (S.setup store.old)) sub.now plain.new (S.model store.new) shelf.now ≡ settled (S.kind (S.setup store.old)) (opening_of sub.now) (state_in (S.kind (S.setup store.old)) sub.now plain.old (S.model store.old) shelf.now) }
     ensures pending { plain.new.pending ≡ plain.old.pending }
     ensures places { plain.new.places ≡ plain.old.places }
-    ensures stays { setup store.new ≡ setup store.old }
+    ensures stays { S.setup store.new ≡ S.setup store.old }
 {
     settle_all(
         &mut plain.marks,
@@ -48,9 +48,9 @@ pub(crate) fn receive<S: Store>(
 )
     requires { judged (opening_of sub.now) plain.old.places.heard plain.old.places.numbers (length shelf.old) bytes.now ≡ Ok Taken }
     ensures shelf { shelf.new ≡ written shelf.old (packet_head bytes.now).number bytes.now }
-    ensures state { state_in (kind (setup store.old)) sub.now plain.new (model store.new) shelf.new ≡ received (kind (setup store.old)) (opening_of sub.now) bytes.now (state_in (kind (setup store.old)) sub.now plain.old (model store.old) shelf.old) }
+    ensures state { state_in (S.kind (S.setup store.old)) sub.now plain.new (S.model store.new) shelf.new ≡ received (S.kind (S.setup store.old)) (opening_of sub.now) bytes.now (state_in (S.kind (S.setup store.old)) sub.now plain.old (S.model store.old) shelf.old) }
     ensures pending { plain.new.pending ≡ plain.old.pending }
-    ensures stays { setup store.new ≡ setup store.old }
+    ensures stays { S.setup store.new ≡ S.setup store.old }
 {
     let q = u64::from(head_of(&sub.sheet, bytes).number);
     lay(shelf, q, bytes);

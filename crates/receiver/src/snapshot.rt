@@ -18,10 +18,10 @@ impl Receiver {
         join: &Join,
         bytes: &[u8],
     ) -> Result<Snapshot, StreamFault>
-        ensures answer { result ≡ snapshot_answer (kind (setup store.old)) (opening_of self.old.sub) join.now.own (length shelf.now) bytes.now (state_in (kind (setup store.old)) self.old.sub self.old.plain (model store.old) shelf.now) }
-        ensures state { state_in (kind (setup store.old)) self.old.sub self.new.plain (model store.new) shelf.now ≡ snapshot_step (kind (setup store.old)) (opening_of self.old.sub) join.now.own (length shelf.now) bytes.now (state_in (kind (setup store.old)) self.old.sub self.old.plain (model store.old) shelf.now) }
+        ensures answer { result ≡ snapshot_answer (S.kind (S.setup store.old)) (opening_of self.old.sub) join.now.own (length shelf.now) bytes.now (state_in (S.kind (S.setup store.old)) self.old.sub self.old.plain (S.model store.old) shelf.now) }
+        ensures state { state_in (S.kind (S.setup store.old)) self.old.sub self.new.plain (S.model store.new) shelf.now ≡ snapshot_step (S.kind (S.setup store.old)) (opening_of self.old.sub) join.now.own (length shelf.now) bytes.now (state_in (S.kind (S.setup store.old)) self.old.sub self.old.plain (S.model store.old) shelf.now) }
         ensures opening { self.new.sub ≡ self.old.sub }
-        ensures stays { setup store.new ≡ setup store.old }
+        ensures stays { S.setup store.new ≡ S.setup store.old }
     {
         let h = self.sub.admit(&self.plain, join.own, shelf.len(), bytes)?;
         if self.plain.again(h.version, h.number) {

@@ -20,9 +20,9 @@ impl Desk {
         own: u64,
         watch: &[u64],
     ) -> Result<Desk, StreamFault>
-        ensures opening { MatchResult result (λ d. (opening_check watch.now version (length (model store.old).slots) ≡ Ok tt) × (opening_of d.receiver.sub ≡ record { channel = channel; version = version; own = own; watch = watch.now; sheet = sheet })) (λ e. opening_check watch.now version (length (model store.old).slots) ≡ Err e) }
-        ensures state { MatchResult result (λ d. (bytes : List ℕ) → state_in (kind (setup store.old)) d.receiver.sub d.receiver.plain (model store.new) bytes ≡ opened (kind (setup store.old)) (opening_of d.receiver.sub) (model store.old)) (λ _. store.new ≡ store.old) }
-        ensures stays { setup store.new ≡ setup store.old }
+        ensures opening { MatchResult result (λ d. (opening_check watch.now version (length (S.model store.old).slots) ≡ Ok tt) × (opening_of d.receiver.sub ≡ record { channel = channel; version = version; own = own; watch = watch.now; sheet = sheet })) (λ e. opening_check watch.now version (length (S.model store.old).slots) ≡ Err e) }
+        ensures state { MatchResult result (λ d. (bytes : List ℕ) → state_in (S.kind (S.setup store.old)) d.receiver.sub d.receiver.plain (S.model store.new) bytes ≡ opened (S.kind (S.setup store.old)) (opening_of d.receiver.sub) (S.model store.old)) (λ _. store.new ≡ store.old) }
+        ensures stays { S.setup store.new ≡ S.setup store.old }
     {
         check_opening(watch, version, store.slots())?;
         let receiver = Receiver::open(store, sheet, channel, version, own, watch);

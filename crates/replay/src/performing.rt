@@ -51,12 +51,12 @@ fn standing_answer(r: Result<Standing, StreamFault>) -> Answer
 
 // Brings an incremental packet to the receiver.
 fn take<S: Store>(receiver: &mut Receiver, store: &mut S, shelf: &mut [u8], bytes: &[u8]) -> Answer
-    ensures answer { result ≡ of_incremental (incremental_answer (opening_of receiver.old.sub) (state_in (kind (setup store.old)) receiver.old.sub receiver.old.plain (model store.old) shelf.old).plain (length shelf.old) bytes.now) }
-    ensures shelf { shelf.new ≡ shelf_after (opening_of receiver.old.sub) (state_in (kind (setup store.old)) receiver.old.sub receiver.old.plain (model store.old) shelf.old).plain bytes.now shelf.old }
-    ensures state { state_in (kind (setup store.old)) receiver.old.sub receiver.new.plain (model store.new) shelf.new ≡ incremental_step (kind (setup store.old)) (opening_of receiver.old.sub) (length shelf.old) bytes.now (state_in (kind (setup store.old)) receiver.old.sub receiver.old.plain (model store.old) shelf.old) }
+    ensures answer { result ≡ of_incremental (incremental_answer (opening_of receiver.old.sub) (state_in (S.kind (S.setup store.old)) receiver.old.sub receiver.old.plain (S.model store.old) shelf.old).plain (length shelf.old) bytes.now) }
+    ensures shelf { shelf.new ≡ shelf_after (opening_of receiver.old.sub) (state_in (S.kind (S.setup store.old)) receiver.old.sub receiver.old.plain (S.model store.old) shelf.old).plain bytes.now shelf.old }
+    ensures state { state_in (S.kind (S.setup store.old)) receiver.old.sub receiver.new.plain (S.model store.new) shelf.new ≡ incremental_step (S.kind (S.setup store.old)) (opening_of receiver.old.sub) (length shelf.old) bytes.now (state_in (S.kind (S.setup store.old)) receiver.old.sub receiver.old.plain (S.model store.old) shelf.old) }
     ensures opening { receiver.new.sub ≡ receiver.old.sub }
     ensures joined { receiver.new.plain.joined ≡ receiver.old.plain.joined }
-    ensures stays { setup store.new ≡ setup store.old }
+    ensures stays { S.setup store.new ≡ S.setup store.old }
 {
     incremental_answer(receiver.incremental(store, shelf, bytes))
 }
@@ -70,11 +70,11 @@ fn follow<S: Store>(
     bytes: &[u8],
 ) -> Answer
     requires { tied receiver.old.plain.joined receiver.old.sub.own held.now ≡ true }
-    ensures answer { result ≡ of_snapshot (snapshot_answer (kind (setup store.old)) (opening_of receiver.old.sub) receiver.old.sub.own (length shelf.now) bytes.now (state_in (kind (setup store.old)) receiver.old.sub receiver.old.plain (model store.old) shelf.now)) }
-    ensures state { state_in (kind (setup store.old)) receiver.old.sub receiver.new.plain (model store.new) shelf.now ≡ snapshot_step (kind (setup store.old)) (opening_of receiver.old.sub) receiver.old.sub.own (length shelf.now) bytes.now (state_in (kind (setup store.old)) receiver.old.sub receiver.old.plain (model store.old) shelf.now) }
+    ensures answer { result ≡ of_snapshot (snapshot_answer (S.kind (S.setup store.old)) (opening_of receiver.old.sub) receiver.old.sub.own (length shelf.now) bytes.now (state_in (S.kind (S.setup store.old)) receiver.old.sub receiver.old.plain (S.model store.old) shelf.now)) }
+    ensures state { state_in (S.kind (S.setup store.old)) receiver.old.sub receiver.new.plain (S.model store.new) shelf.now ≡ snapshot_step (S.kind (S.setup store.old)) (opening_of receiver.old.sub) receiver.old.sub.own (length shelf.now) bytes.now (state_in (S.kind (S.setup store.old)) receiver.old.sub receiver.old.plain (S.model store.old) shelf.now) }
     ensures opening { receiver.new.sub ≡ receiver.old.sub }
     ensures joined { receiver.new.plain.joined ≡ receiver.old.plain.joined }
-    ensures stays { setup store.new ≡ setup store.old }
+    ensures stays { S.setup store.new ≡ S.setup store.old }
 {
     match held {
         Some(join) => snapshot_answer(receiver.snapshot(store, shelf, join, bytes)),
@@ -87,12 +87,12 @@ impl Desk {
     // now shows is the publisher's, the same at every receiver with equal reach, and current once a snapshot has been adopted and
     // no packet since is missing.
     pub fn perform<S: Store>(&mut self, store: &mut S, shelf: &mut [u8], call: Call) -> Answer
-        ensures answer { result ≡ reply (kind (setup store.old)) (opening_of self.old.receiver.sub) (state_in (kind (setup store.old)) self.old.receiver.sub self.old.receiver.plain (model store.old) shelf.old) (request self.old.receiver.sub.own (length shelf.old) call.entry) }
-        ensures state { state_in (kind (setup store.old)) self.old.receiver.sub self.new.receiver.plain (model store.new) shelf.new ≡ step (kind (setup store.old)) (opening_of self.old.receiver.sub) (state_in (kind (setup store.old)) self.old.receiver.sub self.old.receiver.plain (model store.old) shelf.old) (request self.old.receiver.sub.own (length shelf.old) call.entry) }
-        ensures shelf { shelf.new ≡ shelf_then (opening_of self.old.receiver.sub) (state_in (kind (setup store.old)) self.old.receiver.sub self.old.receiver.plain (model store.old) shelf.old).plain (request self.old.receiver.sub.own (length shelf.old) call.entry) shelf.old }
+        ensures answer { result ≡ reply (S.kind (S.setup store.old)) (opening_of self.old.receiver.sub) (state_in (S.kind (S.setup store.old)) self.old.receiver.sub self.old.receiver.plain (S.model store.old) shelf.old) (request self.old.receiver.sub.own (length shelf.old) call.entry) }
+        ensures state { state_in (S.kind (S.setup store.old)) self.old.receiver.sub self.new.receiver.plain (S.model store.new) shelf.new ≡ step (S.kind (S.setup store.old)) (opening_of self.old.receiver.sub) (state_in (S.kind (S.setup store.old)) self.old.receiver.sub self.old.receiver.plain (S.model store.old) shelf.old) (request self.old.receiver.sub.own (length shelf.old) call.entry) }
+        ensures shelf { shelf.new ≡ shelf_then (opening_of self.old.receiver.sub) (state_in (S.kind (S.setup store.old)) self.old.receiver.sub self.old.receiver.plain (S.model store.old) shelf.old).plain (request self.old.receiver.sub.own (length shelf.old) call.entry) shelf.old }
         ensures opening { self.new.receiver.sub ≡ self.old.receiver.sub }
-        ensures stays { setup store.new ≡ setup store.old }
-        ensures guarantee { (i : ℕ) → Guaranteed (kind (setup store.old)) (opening_of self.old.receiver.sub) (state_in (kind (setup store.old)) self.old.receiver.sub self.new.receiver.plain (model store.new) shelf.new) i (Image (setup store.old)) }
+        ensures stays { S.setup store.new ≡ S.setup store.old }
+        ensures guarantee { (i : ℕ) → Guaranteed (S.kind (S.setup store.old)) (opening_of self.old.receiver.sub) (state_in (S.kind (S.setup store.old)) self.old.receiver.sub self.new.receiver.plain (S.model store.new) shelf.new) i (S.Image (S.setup store.old)) }
     {
         let _ = recovery_stands::<S>();
         match call {
@@ -111,8 +111,8 @@ impl Desk {
         shelf: &[u8],
         instrument: u64,
     ) -> Result<Standing, StreamFault>
-        ensures answer { result ≡ question_answer (opening_of self.now.receiver.sub) instrument (state_in (kind (setup store.now)) self.now.receiver.sub self.now.receiver.plain (model store.now) shelf.now) }
-        ensures guarantee { Guaranteed (kind (setup store.now)) (opening_of self.now.receiver.sub) (state_in (kind (setup store.now)) self.now.receiver.sub self.now.receiver.plain (model store.now) shelf.now) instrument (Image (setup store.now)) }
+        ensures answer { result ≡ question_answer (opening_of self.now.receiver.sub) instrument (state_in (S.kind (S.setup store.now)) self.now.receiver.sub self.now.receiver.plain (S.model store.now) shelf.now) }
+        ensures guarantee { Guaranteed (S.kind (S.setup store.now)) (opening_of self.now.receiver.sub) (state_in (S.kind (S.setup store.now)) self.now.receiver.sub self.now.receiver.plain (S.model store.now) shelf.now) instrument (S.Image (S.setup store.now)) }
     {
         let _ = recovery_stands::<S>();
         self.standing(instrument)

@@ -22,11 +22,11 @@ impl Desk {
         answers: &mut Vec<Answer>,
     )
         requires { vec_len answers.old < vec_capacity answers.old }
-        ensures answer { answers.new.items ≡ answers.old.items ++ reply (kind (setup store.old)) (opening_of self.old.receiver.sub) (state_in (kind (setup store.old)) self.old.receiver.sub self.old.receiver.plain (model store.old) shelf.old) (request self.old.receiver.sub.own (length shelf.old) call.entry) ∷ [] }
-        ensures state { state_in (kind (setup store.old)) self.old.receiver.sub self.new.receiver.plain (model store.new) shelf.new ≡ step (kind (setup store.old)) (opening_of self.old.receiver.sub) (state_in (kind (setup store.old)) self.old.receiver.sub self.old.receiver.plain (model store.old) shelf.old) (request self.old.receiver.sub.own (length shelf.old) call.entry) }
-        ensures shelf { shelf.new ≡ shelf_then (opening_of self.old.receiver.sub) (state_in (kind (setup store.old)) self.old.receiver.sub self.old.receiver.plain (model store.old) shelf.old).plain (request self.old.receiver.sub.own (length shelf.old) call.entry) shelf.old }
+        ensures answer { answers.new.items ≡ answers.old.items ++ reply (S.kind (S.setup store.old)) (opening_of self.old.receiver.sub) (state_in (S.kind (S.setup store.old)) self.old.receiver.sub self.old.receiver.plain (S.model store.old) shelf.old) (request self.old.receiver.sub.own (length shelf.old) call.entry) ∷ [] }
+        ensures state { state_in (S.kind (S.setup store.old)) self.old.receiver.sub self.new.receiver.plain (S.model store.new) shelf.new ≡ step (S.kind (S.setup store.old)) (opening_of self.old.receiver.sub) (state_in (S.kind (S.setup store.old)) self.old.receiver.sub self.old.receiver.plain (S.model store.old) shelf.old) (request self.old.receiver.sub.own (length shelf.old) call.entry) }
+        ensures shelf { shelf.new ≡ shelf_then (opening_of self.old.receiver.sub) (state_in (S.kind (S.setup store.old)) self.old.receiver.sub self.old.receiver.plain (S.model store.old) shelf.old).plain (request self.old.receiver.sub.own (length shelf.old) call.entry) shelf.old }
         ensures opening { self.new.receiver.sub ≡ self.old.receiver.sub }
-        ensures stays { setup store.new ≡ setup store.old }
+        ensures stays { S.setup store.new ≡ S.setup store.old }
         ensures room { (vec_len answers.new ≡ vec_len answers.old + 1) × (vec_capacity answers.new ≡ vec_capacity answers.old) }
     {
         let answer = self.perform(store, shelf, call);
@@ -42,11 +42,11 @@ impl Desk {
         answers: &mut Vec<Answer>,
     )
         requires { vec_len answers.old + length calls.now ≤ vec_capacity answers.old }
-        ensures state { state_in (kind (setup store.old)) self.old.receiver.sub self.new.receiver.plain (model store.new) shelf.new ≡ run (kind (setup store.old)) (opening_of self.old.receiver.sub) (state_in (kind (setup store.old)) self.old.receiver.sub self.old.receiver.plain (model store.old) shelf.old) (requests self.old.receiver.sub.own (length shelf.old) calls.now) }
-        ensures answers { answers.new.items ≡ answers.old.items ++ replies (kind (setup store.old)) (opening_of self.old.receiver.sub) (state_in (kind (setup store.old)) self.old.receiver.sub self.old.receiver.plain (model store.old) shelf.old) (requests self.old.receiver.sub.own (length shelf.old) calls.now) }
-        ensures shelf { shelf.new ≡ shelf_along (kind (setup store.old)) (opening_of self.old.receiver.sub) (state_in (kind (setup store.old)) self.old.receiver.sub self.old.receiver.plain (model store.old) shelf.old) (requests self.old.receiver.sub.own (length shelf.old) calls.now) shelf.old }
+        ensures state { state_in (S.kind (S.setup store.old)) self.old.receiver.sub self.new.receiver.plain (S.model store.new) shelf.new ≡ run (S.kind (S.setup store.old)) (opening_of self.old.receiver.sub) (state_in (S.kind (S.setup store.old)) self.old.receiver.sub self.old.receiver.plain (S.model store.old) shelf.old) (requests self.old.receiver.sub.own (length shelf.old) calls.now) }
+        ensures answers { answers.new.items ≡ answers.old.items ++ replies (S.kind (S.setup store.old)) (opening_of self.old.receiver.sub) (state_in (S.kind (S.setup store.old)) self.old.receiver.sub self.old.receiver.plain (S.model store.old) shelf.old) (requests self.old.receiver.sub.own (length shelf.old) calls.now) }
+        ensures shelf { shelf.new ≡ shelf_along (S.kind (S.setup store.old)) (opening_of self.old.receiver.sub) (state_in (S.kind (S.setup store.old)) self.old.receiver.sub self.old.receiver.plain (S.model store.old) shelf.old) (requests self.old.receiver.sub.own (length shelf.old) calls.now) shelf.old }
         ensures opening { self.new.receiver.sub ≡ self.old.receiver.sub }
-        ensures stays { setup store.new ≡ setup store.old }
+        ensures stays { S.setup store.new ≡ S.setup store.old }
     {
         for call in calls {
             self.perform_next(store, shelf, *call, answers);
@@ -65,14 +65,14 @@ impl Desk {
         calls: &[Call],
         answers: &mut Vec<Answer>,
     ) -> Result<(), AllocError>
-        ensures state { state_in (kind (setup store.old)) self.old.receiver.sub self.new.receiver.plain (model store.new) shelf.new ≡ run (kind (setup store.old)) (opening_of self.old.receiver.sub) (state_in (kind (setup store.old)) self.old.receiver.sub self.old.receiver.plain (model store.old) shelf.old) (requests self.old.receiver.sub.own (length shelf.old) (done result calls.now)) }
-        ensures answers { answers.new.items ≡ answers.old.items ++ replies (kind (setup store.old)) (opening_of self.old.receiver.sub) (state_in (kind (setup store.old)) self.old.receiver.sub self.old.receiver.plain (model store.old) shelf.old) (requests self.old.receiver.sub.own (length shelf.old) (done result calls.now)) }
-        ensures shelf { shelf.new ≡ shelf_along (kind (setup store.old)) (opening_of self.old.receiver.sub) (state_in (kind (setup store.old)) self.old.receiver.sub self.old.receiver.plain (model store.old) shelf.old) (requests self.old.receiver.sub.own (length shelf.old) (done result calls.now)) shelf.old }
+        ensures state { state_in (S.kind (S.setup store.old)) self.old.receiver.sub self.new.receiver.plain (S.model store.new) shelf.new ≡ run (S.kind (S.setup store.old)) (opening_of self.old.receiver.sub) (state_in (S.kind (S.setup store.old)) self.old.receiver.sub self.old.receiver.plain (S.model store.old) shelf.old) (requests self.old.receiver.sub.own (length shelf.old) (done result calls.now)) }
+        ensures answers { answers.new.items ≡ answers.old.items ++ replies (S.kind (S.setup store.old)) (opening_of self.old.receiver.sub) (state_in (S.kind (S.setup store.old)) self.old.receiver.sub self.old.receiver.plain (S.model store.old) shelf.old) (requests self.old.receiver.sub.own (length shelf.old) (done result calls.now)) }
+        ensures shelf { shelf.new ≡ shelf_along (S.kind (S.setup store.old)) (opening_of self.old.receiver.sub) (state_in (S.kind (S.setup store.old)) self.old.receiver.sub self.old.receiver.plain (S.model store.old) shelf.old) (requests self.old.receiver.sub.own (length shelf.old) (done result calls.now)) shelf.old }
         ensures opening { self.new.receiver.sub ≡ self.old.receiver.sub }
-        ensures stays { setup store.new ≡ setup store.old }
+        ensures stays { S.setup store.new ≡ S.setup store.old }
         ensures refused { OnErr result ((self.new ≡ self.old) × (store.new ≡ store.old)) }
-        ensures history { Continues (kind (setup store.old)) (opening_of self.old.receiver.sub) (state_in (kind (setup store.old)) self.old.receiver.sub self.old.receiver.plain (model store.old) shelf.old) (state_in (kind (setup store.old)) self.old.receiver.sub self.new.receiver.plain (model store.new) shelf.new) (requests self.old.receiver.sub.own (length shelf.old) (done result calls.now)) }
-        ensures guarantee { Recovers (kind (setup store.old)) (opening_of self.old.receiver.sub) (state_in (kind (setup store.old)) self.old.receiver.sub self.old.receiver.plain (model store.old) shelf.old) (state_in (kind (setup store.old)) self.old.receiver.sub self.new.receiver.plain (model store.new) shelf.new) (requests self.old.receiver.sub.own (length shelf.old) (done result calls.now)) (Image (setup store.old)) }
+        ensures history { Continues (S.kind (S.setup store.old)) (opening_of self.old.receiver.sub) (state_in (S.kind (S.setup store.old)) self.old.receiver.sub self.old.receiver.plain (S.model store.old) shelf.old) (state_in (S.kind (S.setup store.old)) self.old.receiver.sub self.new.receiver.plain (S.model store.new) shelf.new) (requests self.old.receiver.sub.own (length shelf.old) (done result calls.now)) }
+        ensures guarantee { Recovers (S.kind (S.setup store.old)) (opening_of self.old.receiver.sub) (state_in (S.kind (S.setup store.old)) self.old.receiver.sub self.old.receiver.plain (S.model store.old) shelf.old) (state_in (S.kind (S.setup store.old)) self.old.receiver.sub self.new.receiver.plain (S.model store.new) shelf.new) (requests self.old.receiver.sub.own (length shelf.old) (done result calls.now)) (S.Image (S.setup store.old)) }
     {
         let _ = recovery_stands::<S>();
         answers.reserve(calls.len())?;

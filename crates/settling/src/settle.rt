@@ -63,8 +63,8 @@ fn take<S: Store>(
     known: bool,
 )
     requires { (n + 1 < 2 ^ 64) × ((known ≡ true → is_ok (packet_check sheet.now part.now) ≡ true)) }
-    ensures books { Each (kind (setup store.old)) (watch_of w.now) (pass n (reading sheet.now part.now)) marks.old.at (model store.old) marks.new.at (model store.new) }
-    ensures stays { setup store.new ≡ setup store.old }
+    ensures books { Each (S.kind (S.setup store.old)) (watch_of w.now) (pass n (reading sheet.now part.now)) marks.old.at (S.model store.old) marks.new.at (S.model store.new) }
+    ensures stays { S.setup store.new ≡ S.setup store.old }
 {
     if known || passes(sheet, part) {
         walk(marks, store, w, n, Checked::new(sheet, part));
@@ -85,8 +85,8 @@ pub fn settle_all<S: Store>(
     known: u64,
 )
     requires { (44800 ≤ length shelf.now) × ((0 < known → is_ok (packet_check sheet.now (part_of places.now.lengths shelf.now known)) ≡ true)) }
-    ensures books { Each (kind (setup store.old)) (watch_of w.now) (λ k i x. settle k places.now.heard (shelf_of sheet.now places.now.heard places.now.numbers places.now.lengths shelf.now) i x) marks.old.at (model store.old) marks.new.at (model store.new) }
-    ensures stays { setup store.new ≡ setup store.old }
+    ensures books { Each (S.kind (S.setup store.old)) (watch_of w.now) (λ k i x. settle k places.now.heard (shelf_of sheet.now places.now.heard places.now.numbers places.now.lengths shelf.now) i x) marks.old.at (S.model store.old) marks.new.at (S.model store.new) }
+    ensures stays { S.setup store.new ≡ S.setup store.old }
 {
     let heard = places.heard;
     let low = lowest(marks, w, heard);

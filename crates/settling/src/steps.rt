@@ -35,8 +35,8 @@ fn is_change(m: &Message) -> bool
 // What an event makes of the book at a slot.
 fn note<S: Store>(marks: &mut Marks, store: &mut S, slot: usize, e: Event)
     requires { (slot < 64) × (Small e) }
-    ensures book { Puts (kind (setup store.old)) slot (noted e (kind_in (kind (setup store.old)) (model store.old) slot) 0 (book_at (kind (setup store.old)) marks.old.at (model store.old) slot)) marks.old.at (model store.old) marks.new.at (model store.new) }
-    ensures stays { setup store.new ≡ setup store.old }
+    ensures book { Puts (S.kind (S.setup store.old)) slot (noted e (kind_in (S.kind (S.setup store.old)) (S.model store.old) slot) 0 (book_at (S.kind (S.setup store.old)) marks.old.at (S.model store.old) slot)) marks.old.at (S.model store.old) marks.new.at (S.model store.new) }
+    ensures stays { S.setup store.new ≡ S.setup store.old }
 {
     if marks.note(slot, e) {
         let _ = store.freshen(slot);
@@ -46,8 +46,8 @@ fn note<S: Store>(marks: &mut Marks, store: &mut S, slot: usize, e: Event)
 // What an event makes of every watched book.
 pub fn note_all<S: Store>(marks: &mut Marks, store: &mut S, w: &Watch, e: Event)
     requires { Small e }
-    ensures books { Each (kind (setup store.old)) (watch_of w.now) (noted e) marks.old.at (model store.old) marks.new.at (model store.new) }
-    ensures stays { setup store.new ≡ setup store.old }
+    ensures books { Each (S.kind (S.setup store.old)) (watch_of w.now) (noted e) marks.old.at (S.model store.old) marks.new.at (S.model store.new) }
+    ensures stays { S.setup store.new ≡ S.setup store.old }
 {
     for slot in 0..w.count {
         note(marks, store, slot, e);
@@ -57,8 +57,8 @@ pub fn note_all<S: Store>(marks: &mut Marks, store: &mut S, w: &Watch, e: Event)
 // A message for the instrument at a slot.
 fn heed<S: Store>(marks: &mut Marks, store: &mut S, n: u64, slot: usize, m: &Message)
     requires { slot < 64 }
-    ensures book { Puts (kind (setup store.old)) slot (heeded n (view m.now) (kind_in (kind (setup store.old)) (model store.old) slot) (book_at (kind (setup store.old)) marks.old.at (model store.old) slot)) marks.old.at (model store.old) marks.new.at (model store.new) }
-    ensures stays { setup store.new ≡ setup store.old }
+    ensures book { Puts (S.kind (S.setup store.old)) slot (heeded n (view m.now) (kind_in (S.kind (S.setup store.old)) (S.model store.old) slot) (book_at (S.kind (S.setup store.old)) marks.old.at (S.model store.old) slot)) marks.old.at (S.model store.old) marks.new.at (S.model store.new) }
+    ensures stays { S.setup store.new ≡ S.setup store.old }
 {
     if is_change(m) && stands(marks.mark(slot), n) {
         match store.apply(slot, m) {
@@ -70,8 +70,8 @@ fn heed<S: Store>(marks: &mut Marks, store: &mut S, n: u64, slot: usize, m: &Mes
 
 // A message of the packet after n.
 fn hand<S: Store>(marks: &mut Marks, store: &mut S, w: &Watch, n: u64, m: &Message)
-    ensures books { Each (kind (setup store.old)) (watch_of w.now) (feed n (view m.now)) marks.old.at (model store.old) marks.new.at (model store.new) }
-    ensures stays { setup store.new ≡ setup store.old }
+    ensures books { Each (S.kind (S.setup store.old)) (watch_of w.now) (feed n (view m.now)) marks.old.at (S.model store.old) marks.new.at (S.model store.new) }
+    ensures stays { S.setup store.new ≡ S.setup store.old }
 {
     if let Some(id) = security_of(m) {
         if let Some(slot) = w.slot(id) {
@@ -82,8 +82,8 @@ fn hand<S: Store>(marks: &mut Marks, store: &mut S, w: &Watch, n: u64, m: &Messa
 
 // Every message of the packet after n, in order.
 pub fn walk<S: Store>(marks: &mut Marks, store: &mut S, w: &Watch, n: u64, packet: Checked)
-    ensures books { Each (kind (setup store.old)) (watch_of w.now) (feeds n (messages packet.entry.sheet.now packet.entry.bytes.now)) marks.old.at (model store.old) marks.new.at (model store.new) }
-    ensures stays { setup store.new ≡ setup store.old }
+    ensures books { Each (S.kind (S.setup store.old)) (watch_of w.now) (feeds n (messages packet.entry.sheet.now packet.entry.bytes.now)) marks.old.at (S.model store.old) marks.new.at (S.model store.new) }
+    ensures stays { S.setup store.new ≡ S.setup store.old }
 {
     let mut walk = packet.walk();
     while let Some(m) = walk.next() {
