@@ -11,7 +11,7 @@ pub new_plain-requires : goal.new_plain-requires
 new_plain-requires g c = (listed c.args.watch.now c.args.version (length (g.S.Store.model c.args.store.now).slots) c.requires).0
 
 pub invariant_of-result : goal.invariant_of-result
-invariant_of-result g c = (ap (attended (watch_of c.new.result)) c.new_plain.ensures.others.3, tt)
+invariant_of-result g c = record { attends = ap (attended (watch_of c.new.result)) c.new_plain.ensures.others.3 }
 
 pub returns : goal.returns
 returns g c =
