@@ -10,11 +10,10 @@ returns-in_err-extend_from_slice c = λ own room. MatchResult-from_err _ _ _ c.f
     ap₂ (λ (b : List ℕ) (e : List Entry). map (asked own room b) e) c.in_err-extend_from_slice.ensures.items c.reserve.ensures.items)
 
 pub invariant_of-self-2 : goal.invariant_of-self-2
-invariant_of-self-2 c = (
-  (put (vec_items c.args.self.now.bytes) _ _ _ (vec_items c.args.self.now.entries) _ _ _ c.args.call c.args.self.now.lies c.in_ok-extend_from_slice.ensures.items
-      c.bytes_in.ensures c.push_reserved.ensures.items c.reserve.ensures.items c.entry_at.ensures c.as_slice-from.ensures.value).0,
-  tt,
-)
+invariant_of-self-2 c = record {
+  lies = (put (vec_items c.args.self.now.bytes) _ _ _ (vec_items c.args.self.now.entries) _ _ _ c.args.call c.args.self.now.lies c.in_ok-extend_from_slice.ensures.items
+      c.bytes_in.ensures c.push_reserved.ensures.items c.reserve.ensures.items c.entry_at.ensures c.as_slice-from.ensures.value).0;
+}
 
 pub returns : goal.returns
 returns c =
