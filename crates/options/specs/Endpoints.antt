@@ -1,5 +1,5 @@
 -- An address and port as they are written: four figures with points, a colon, the port.
-use Rattle.std.specs.Prelude.{ℕ, ◌+◌, ◌*◌, List, Some, None, Option}
+use Rattle.std.specs.Prelude.{ℕ, ◌+◌, ◌*◌, List, Some, Option}
 use Rattle.sheet_text.specs.Text.{cut_at}
 use Rattle.commands.specs.Decimal.{and_then, decimal_of, up_to}
 use Rattle.options.specs.declared.endpoint.Endpoint.{Endpoint}

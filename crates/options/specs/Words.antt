@@ -1,5 +1,5 @@
 -- The words of a command line: what each stands for, and its place among the settings and flags.
-use Rattle.std.specs.Prelude.{ℕ, Bool, cond, ◌&&◌, List, [], ◌∷◌, take, codes}
+use Rattle.std.specs.Prelude.{ℕ, cond, List, [], ◌∷◌, take, codes}
 use Rattle.std.specs.Str.{bytes_eq}
 use Rattle.options.specs.declared.setting.Setting.{Setting}
 use Rattle.options.specs.declared.setting.Setting.TheVariants.{Sheet, Capture, Channel, Version, Incremental, Snapshot, Watch, Depth, Out, Coverage}

@@ -1,6 +1,6 @@
 -- A sheet that is built template by template takes each of them.
-use Rattle.std.proofs.Common.{◌≡◌, ℕ, ◌+◌, ◌<◌, ◌≤◌, Bool, true, false, cond, not, ◌&&◌, ◌||◌, eqb, leb, List, [], ◌∷◌, ◌++◌, map, length, get_or, take, drop, Some, None, Option, sym, refl, ap, ◌∙◌, subst, arith}
-use Rattle.std.proofs.lemmas.List.{length-map, length-append, map_push, append_assoc, append-nil, take-append-drop, drop_more, take_more}
+use Rattle.std.proofs.Common.{◌≡◌, ℕ, ◌+◌, ◌<◌, ◌≤◌, Bool, true, false, cond, not, ◌&&◌, ◌||◌, eqb, leb, List, [], ◌∷◌, ◌++◌, map, length, get_or, take, drop, sym, refl, ap, ◌∙◌, arith}
+use Rattle.std.proofs.lemmas.List.{length-map, length-append, map_push, append-nil, take-append-drop, drop_more, take_more}
 use Rattle.std.proofs.lemmas.Bool.{or_parts, or_from, and_from, and_left, and_right, le-leb, cond_both}
 use Rattle.layout.specs.declared.kinds.Actions.{Actions}
 use Rattle.layout.specs.declared.kinds.Layout.{Layout}
@@ -11,7 +11,7 @@ use Rattle.sheet_text.specs.declared.types.Kind.TheVariants.{Stat}
 use Rattle.sheet_text.specs.declared.types.FieldLine.{FieldLine}
 use Rattle.sheet_text.specs.Names.{same_kind}
 use Rattle.sheet_text.specs.Follows.{listed, firsts, stat_lines}
-use Rattle.sheet_text.specs.Meaning.{layout_of, template_of, templates_of, listing}
+use Rattle.sheet_text.specs.Meaning.{layout_of, template_of, listing}
 use Rattle.sheet_text.specs.Adding.{takes}
 use Rattle.sheet_text.specs.Kept.{Kept}
 use Rattle.sheet_text.proofs.Firsts.{firsts_split}

@@ -1,16 +1,16 @@
 -- The lines of an accepted text are what its sheet holds.
-use Rattle.std.proofs.Common.{◌≡◌, ℕ, zero, suc, ◌+◌, ◌<◌, ◌≤◌, Bool, true, false, cond, not, ◌&&◌, ◌||◌, eqb, ◌⊎◌, List, [], ◌∷◌, ◌++◌, length, get_or, take, drop, IfOk, Some, None, Option, Result, sym, refl, ap, ◌∙◌, subst, inl, inr, ⊎_elim, arith}
+use Rattle.std.proofs.Common.{◌≡◌, ℕ, zero, suc, ◌+◌, ◌<◌, Bool, true, false, cond, not, ◌&&◌, ◌||◌, eqb, ◌⊎◌, List, [], ◌∷◌, ◌++◌, length, get_or, drop, IfOk, Some, None, Option, Result, sym, refl, ap, ◌∙◌, subst, inl, inr, ⊎_elim, arith}
 use Rattle.std.proofs.lemmas.List.{append_assoc, append-nil, length_push, get_or_append_left, get_or_push}
-use Rattle.std.proofs.lemmas.Bool.{false≢true, true≢false, cases_lt, cases_Bool, and_parts, and_from, or_parts, eqb-true, eq-eqb, not-true, cond-true, cond-false}
+use Rattle.std.proofs.lemmas.Bool.{false≢true, cases_lt, cases_Bool, and_parts, and_from, or_parts, eqb-true, eq-eqb, not-true, cond-true, cond-false}
 use Rattle.layout.specs.declared.template.Template.{Template}
 use Rattle.sheet_text.specs.declared.types.Field.{Field}
 use Rattle.sheet_text.specs.declared.types.FieldLine.{FieldLine}
 use Rattle.sheet_text.specs.declared.types.SheetFault.{SheetFault}
-use Rattle.sheet_text.specs.Text.{Row, and_then}
+use Rattle.sheet_text.specs.Text.{Row}
 use Rattle.sheet_text.specs.Names.{same_field, same_kind, fields_of}
 use Rattle.sheet_text.specs.FieldLines.{field_line}
 use Rattle.sheet_text.specs.Follows.{listed, named, missing, last_of, lacks, complete, goes_on, room_for, may_follow}
-use Rattle.sheet_text.specs.Sheets.{right, may_end, first_wrong, follows, field_lines, with_line, answer}
+use Rattle.sheet_text.specs.Sheets.{right, first_wrong, follows, field_lines, with_line, answer}
 use Rattle.sheet_text.specs.Meaning.{spot_of, listing, templates_of, templates_in}
 use Rattle.sheet_text.specs.Laws.{Honoured}
 use Rattle.sheet_text.proofs.Missing.{unlisted_unnamed, missing_no_more, last_push}

@@ -1,8 +1,6 @@
 -- The layout that sound lines give is lawful.
-use Rattle.std.proofs.Common.{◌≡◌, ℕ, Bool, true, false, cond, ◌&&◌, eqb, List, [], ◌∷◌, sym, refl, ap, ◌∙◌, subst}
+use Rattle.std.proofs.Common.{◌≡◌, ℕ, true, cond, ◌&&◌, eqb, List, [], ◌∷◌, sym, refl, ap, ◌∙◌, subst}
 use Rattle.std.proofs.lemmas.Bool.{and_parts, and_from, eqb-true, cond_both}
-use Rattle.layout.specs.declared.kinds.Spot.{Spot}
-use Rattle.layout.specs.Wire.{bytes_of}
 use Rattle.layout.specs.Lawful.{lawful_layout, is_stat}
 use Rattle.sheet_text.specs.declared.types.Kind.{Kind}
 use Rattle.sheet_text.specs.declared.types.Kind.TheVariants.{Order, Delete, Mass, Empty, Stat, Header, Entries}

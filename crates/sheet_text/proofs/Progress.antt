@@ -1,12 +1,12 @@
 -- Reading field lines, one by one.
-use Rattle.std.proofs.Common.{◌≡◌, ℕ, suc, ◌+◌, ◌<◌, ◌≤◌, Bool, true, false, cond, eqb, List, [], ◌∷◌, ◌++◌, length, take, set, Some, None, Option, sym, refl, ap, ◌∙◌, subst, arith}
+use Rattle.std.proofs.Common.{◌≡◌, ℕ, ◌+◌, ◌<◌, ◌≤◌, Bool, true, false, eqb, List, [], ◌∷◌, ◌++◌, length, take, set, Some, None, Option, sym, refl, ap, ◌∙◌, subst, arith}
 use Rattle.std.proofs.lemmas.List.{append_assoc, append-nil, length_push, length-take-le, length-set, take_more_set, nil_from_length}
-use Rattle.std.proofs.lemmas.Bool.{false≢true, true≢false, ne_eqb, cond-true, cond-false, cond_both}
+use Rattle.std.proofs.lemmas.Bool.{true≢false, ne_eqb, cond-true, cond-false, cond_both}
 use Rattle.sheet_text.specs.declared.types.FieldLine.{FieldLine}
 use Rattle.sheet_text.specs.Text.{Row, rows, rows_from, ended, starts_well, and_then}
 use Rattle.sheet_text.specs.FieldLines.{sound, field_line}
 use Rattle.sheet_text.specs.Follows.{complete, may_follow}
-use Rattle.sheet_text.specs.Sheets.{first_wrong, field_lines, with_line, follows, right, may_end}
+use Rattle.sheet_text.specs.Sheets.{first_wrong, field_lines, with_line, follows, right}
 use Rattle.sheet_text.specs.Opening.{opening_rows}
 use Rattle.sheet_text.specs.Kept.{Kept}
 use Rattle.sheet_text.proofs.Keeps.{keeps}

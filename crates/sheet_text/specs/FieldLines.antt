@@ -1,5 +1,5 @@
 -- The grammar of one field line, with the rules that concern a line alone.
-use Rattle.std.specs.Prelude.{ℕ, Bool, true, false, cond, ◌&&◌, List, [], ◌∷◌, Some, None, Option, ◌==◌, nat_le}
+use Rattle.std.specs.Prelude.{ℕ, Bool, cond, ◌&&◌, List, Some, None, Option, ◌==◌, nat_le}
 use Rattle.layout.specs.declared.kinds.Spot.{Spot}
 use Rattle.layout.specs.Wire.{bytes_of}
 use Rattle.layout.specs.Lawful.{up_to, just}

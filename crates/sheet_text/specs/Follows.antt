@@ -1,5 +1,5 @@
 -- Which field line may stand behind which others.
-use Rattle.std.specs.Prelude.{ℕ, ◌+◌, Bool, true, false, cond, not, ◌&&◌, ◌||◌, List, [], ◌∷◌, ◌++◌, length, Some, None, Option, ◌==◌, nat_lt}
+use Rattle.std.specs.Prelude.{ℕ, ◌+◌, Bool, false, cond, not, ◌&&◌, ◌||◌, List, [], ◌∷◌, ◌++◌, length, Some, None, Option, ◌==◌, nat_lt}
 use Rattle.sheet_text.specs.declared.types.Kind.{Kind}
 use Rattle.sheet_text.specs.declared.types.Kind.TheVariants.{Stat}
 use Rattle.sheet_text.specs.declared.types.Field.{Field}

@@ -1,5 +1,5 @@
 -- What it means that a text is accepted or refused, row by row, and that a sheet holds what the lines say.
-use Rattle.std.specs.Prelude.{◌≡◌, ℕ, ◌+◌, ◌<◌, ◌≤◌, true, false, List, [], length, take, Some, None, Option, slice_index_or}
+use Rattle.std.specs.Prelude.{◌≡◌, ℕ, ◌+◌, ◌<◌, ◌≤◌, true, false, List, length, take, Some, None, slice_index_or}
 use Rattle.layout.specs.declared.template.Template.{Template}
 use Rattle.layout.specs.Lawful.{find}
 use Rattle.sheet_text.specs.declared.types.FieldLine.{FieldLine}

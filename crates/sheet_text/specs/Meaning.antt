@@ -1,5 +1,5 @@
 -- The sheet that a text stands for.
-use Rattle.std.specs.Prelude.{ℕ, Bool, true, false, cond, ◌&&◌, List, [], ◌∷◌, map, drop, Some, None, Option, ◌==◌}
+use Rattle.std.specs.Prelude.{ℕ, cond, ◌&&◌, List, [], ◌∷◌, map, drop, None, Option, ◌==◌}
 use Rattle.layout.specs.declared.width.Width.TheVariants.{One, Eight}
 use Rattle.layout.specs.declared.kinds.Actions.{Actions}
 use Rattle.layout.specs.declared.kinds.Spot.{Spot}

@@ -1,5 +1,5 @@
 -- The words of a sheet: kinds, the fields of each kind, and widths.
-use Rattle.std.specs.Prelude.{ℕ, Bool, true, false, cond, ◌||◌, List, [], ◌∷◌, Some, None, codes, Option, ◌==◌}
+use Rattle.std.specs.Prelude.{ℕ, Bool, false, cond, ◌||◌, List, [], ◌∷◌, Some, None, codes, Option, ◌==◌}
 use Rattle.std.specs.Str.{bytes_eq}
 use Rattle.layout.specs.declared.width.Width.{Width}
 use Rattle.layout.specs.declared.width.Width.TheVariants.{One, Two, Four, Eight}

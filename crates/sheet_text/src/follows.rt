@@ -2,7 +2,7 @@ ghost use Rattle.std.specs.Prelude.{◌≡◌, [], length};
 ghost use Rattle.sheet_text.specs.Names.{fields_of};
 ghost use Rattle.sheet_text.specs.Follows.{listed, named, missing, firsts, stat_lines, last_of, lacks, complete, goes_on, room_for, may_follow};
 
-use crate::names::{fields_of, same_field, same_kind_lem};
+use crate::names::{fields_of, same_field, same_kind};
 use crate::types::{Field, FieldLine, Kind};
 
 // Whether a line is of that template.
@@ -61,7 +61,7 @@ fn count_stats(lines: &[FieldLine]) -> usize
 {
     let mut n: usize = 0;
     for (i, x) in lines.iter().enumerate() {
-        if same_kind_lem(x.kind, Kind::Stat) & !is_listed(&lines[0..i], x.template) {
+        if same_kind(x.kind, Kind::Stat) & !is_listed(&lines[0..i], x.template) {
             n += 1;
         }
     }
@@ -88,11 +88,11 @@ pub(crate) fn is_complete(lines: &[FieldLine]) -> bool
     }
 }
 
-fn goes_on_lem(lines: &[FieldLine], x: &FieldLine) -> bool
+fn goes_on(lines: &[FieldLine], x: &FieldLine) -> bool
     ensures { result ≡ goes_on (last_of lines.now) x.now }
 {
     match last_of(lines) {
-        Some(y) => (y.template == x.template) & same_kind_lem(y.kind, x.kind),
+        Some(y) => (y.template == x.template) & same_kind(y.kind, x.kind),
         None => false,
     }
 }
@@ -108,7 +108,7 @@ pub(crate) fn may_follow(lines: &[FieldLine], x: &FieldLine) -> bool
     ensures { result ≡ may_follow lines.now x.now }
 {
     if is_listed(lines, x.template) {
-        goes_on_lem(lines, x) & !is_named(lines, x.template, x.field)
+        goes_on(lines, x) & !is_named(lines, x.template, x.field)
     } else {
         is_complete(lines) & has_room(lines, x.kind)
     }

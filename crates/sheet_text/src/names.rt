@@ -48,7 +48,7 @@ fn field_number(field: Field) -> u8
 }
 
 // Whether two kinds are the same.
-pub(crate) fn same_kind_lem(a: Kind, b: Kind) -> bool
+pub(crate) fn same_kind(a: Kind, b: Kind) -> bool
     ensures { result ≡ same_kind a b }
 {
     kind_number(a) == kind_number(b)

@@ -1,4 +1,4 @@
-use Rattle.std.proofs.Common.{◌≡◌, ◌≤◌, length, rules}
+use Rattle.std.proofs.Common.{◌≤◌, length, rules}
 use Rattle.hex_digits.proofs.Pairs.{long}
 use Rattle.hex_digits.proofs.decode.Goals as goal
 

@@ -1,4 +1,4 @@
-use Rattle.std.proofs.Common.{◌≡◌, vec_items, sym, refl, ◌∙◌, arith, rules}
+use Rattle.std.proofs.Common.{vec_items, refl, arith, rules}
 use Rattle.hex_digits.specs.Hex.{digits_of}
 use Rattle.hex_digits.proofs.Pairs.{start, step, stop, odd, all, none_case, some_case}
 use Rattle.hex_digits.proofs.digits.Goals as goal

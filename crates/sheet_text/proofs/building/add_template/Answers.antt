@@ -1,4 +1,4 @@
-use Rattle.std.proofs.Common.{◌≡◌, vec_items, sym, refl, ap, ◌∙◌}
+use Rattle.std.proofs.Common.{vec_items, sym, refl, ap, ◌∙◌}
 use Rattle.layout.specs.Lawful.{lawful_layout}
 use Rattle.sheet_text.specs.Meaning.{template_of}
 use Rattle.sheet_text.proofs.Builds.{added, added-listing, refused}

@@ -1,8 +1,7 @@
-use Rattle.std.proofs.Common.{◌≡◌, true, false, cond, [], map, get_or, take, vec_items, sym, refl, ap, ◌∙◌, arith}
+use Rattle.std.proofs.Common.{◌≡◌, true, cond, [], map, get_or, take, vec_items, sym, refl, ap, ◌∙◌, arith}
 use native.Mathlib.Nat.{sub-zero}
 use Rattle.std.proofs.lemmas.List.{take_all}
 use Rattle.std.proofs.lemmas.Bool.{cond-true}
-use Rattle.layout.specs.declared.sheet.Sheet.{Sheet}
 use Rattle.sheet_text.specs.Follows.{listed, firsts}
 use Rattle.sheet_text.specs.Meaning.{template_of, listing}
 use Rattle.sheet_text.proofs.Searches.{blank}

@@ -1,4 +1,4 @@
-use Rattle.std.proofs.Common.{◌≡◌, take, sym, ap, ◌∙◌, subst}
+use Rattle.std.proofs.Common.{take, sym, subst}
 use native.Mathlib.Nat.{sub-zero}
 use Rattle.sheet_text.specs.Kept.{Kept}
 use Rattle.sheet_text.proofs.filling.load.Goals as goal

@@ -1,4 +1,4 @@
-use Rattle.std.proofs.Common.{◌≡◌, eqb, sym, refl, ◌∙◌, arith}
+use Rattle.std.proofs.Common.{eqb, refl, arith}
 use Rattle.std.proofs.lemmas.Bool.{eq-eqb, ne_eqb}
 use Rattle.sheet_text.specs.Follows.{listed}
 use Rattle.sheet_text.proofs.Searches.{blank, seek_here, seek_more, seek_all}

@@ -1,5 +1,5 @@
 use Rattle.sheet_text.specs.Text.{rows}
-use Rattle.sheet_text.proofs.Openings.{wrong_first, wrong_second, wrong_third, wrong_fourth, opens}
+use Rattle.sheet_text.proofs.Openings.{wrong_first, wrong_third, wrong_fourth, opens}
 use Rattle.sheet_text.proofs.opening.opening.Goals as goal
 
 pub returns : goal.returns

@@ -1,4 +1,4 @@
-use Rattle.std.proofs.Common.{◌≡◌, ◌+◌, drop, sym, ◌∙◌, arith}
+use Rattle.std.proofs.Common.{◌+◌, drop, sym, ◌∙◌, arith}
 use Rattle.sheet_text.proofs.Figures.{figure-step, figure-none, figure-over, figure-all}
 use Rattle.sheet_text.proofs.text.figures.Goals as goal
 

@@ -1,4 +1,4 @@
-use Rattle.std.proofs.Common.{◌≡◌, ◌+◌, [], length, ap, arith}
+use Rattle.std.proofs.Common.{◌+◌, [], length, ap, arith}
 use Rattle.std.proofs.lemmas.List.{take_rest, length-drop}
 use Rattle.sheet_text.proofs.Rows.{row-found, row_open, row-long}
 use Rattle.sheet_text.proofs.text.next_line.Goals as goal
