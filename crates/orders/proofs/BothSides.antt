@@ -1,9 +1,9 @@
 -- a row that is put is a side of a book that is put
-use Rattle.std.proofs.Common.{◌≡◌, ℕ, ◌+◌, ◌*◌, ◌<◌, Bool, true, false, cond, ◌&&◌, ◌||◌, eqb, List, length, Some, None, Option, sym, refl, ap, ◌∙◌, subst, arith}
+use Rattle.std.proofs.Common.{◌≡◌, ℕ, ◌+◌, ◌*◌, ◌<◌, Bool, true, false, cond, ◌&&◌, ◌||◌, eqb, List, length, Some, None, ap, ◌∙◌, subst, arith}
 use Rattle.message.specs.declared.values.Order.{Order}
 use Rattle.orders.specs.declared.rows.Rows.{Rows}
-use Rattle.orders.specs.Book.{Book, book, is_side, on_side, side_of, with_side}
-use Rattle.orders.specs.Rows.{Held, Puts, PutsBook, row, book_at}
+use Rattle.orders.specs.Book.{book, is_side, on_side, side_of, with_side}
+use Rattle.orders.specs.Rows.{Puts, PutsBook, row, book_at}
 
 same-book : (a b c d : List Order) → a ≡ c → b ≡ d → book a b ≡ book c d
 same-book a b c d e f = ap (λ z. book z b) e ∙ ap (λ z. book c z) f

@@ -1,5 +1,5 @@
 -- a table that has just been opened: its room, and its empty rows
-use Rattle.std.proofs.Common.{◌≡◌, ℕ, zero, suc, ◌+◌, ◌-◌, ◌*◌, ◌/◌, ◌<◌, ◌≤◌, min, true, List, [], ◌∷◌, map, get_or, take, replicate, sym, refl, ap, ◌∙◌, mul-le-mul_right, mul_assoc, div-mul-le_self, arith}
+use Rattle.std.proofs.Common.{◌≡◌, ℕ, zero, suc, ◌+◌, ◌*◌, ◌/◌, ◌≤◌, true, [], ◌∷◌, map, get_or, replicate, refl, ap, ◌∙◌, mul-le-mul_right, mul_assoc, div-mul-le_self, arith}
 use Rattle.std.specs.List.{range_with_len}
 use Rattle.std.proofs.lemmas.Nat.{le-div}
 use Rattle.std.proofs.lemmas.Bool.{and_parts, leb-true}

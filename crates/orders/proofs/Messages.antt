@@ -1,5 +1,5 @@
 -- what an edit of a row says of the message that asked for it
-use Rattle.std.proofs.Common.{◌≡◌, ℕ, ◌-◌, ◌<◌, Bool, true, cond, ◌&&◌, ◌||◌, eqb, List, length, take, drop, sym, ap, ◌∙◌, subst}
+use Rattle.std.proofs.Common.{◌≡◌, ℕ, ◌<◌, Bool, cond, eqb, List, length, sym, ap, ◌∙◌, subst}
 use Rattle.std.proofs.lemmas.Bool.{eq-eqb, ne_eqb, cond-true, cond-false, or_left, or_right}
 use Rattle.layout.specs.declared.kinds.Actions.{Actions}
 use Rattle.message.specs.declared.values.Order.{Order}
@@ -7,7 +7,7 @@ use Rattle.message.specs.declared.values.OrderFields.{OrderFields}
 use Rattle.message.specs.declared.values.MassFields.{MassFields}
 use Rattle.positions.specs.Positions.{fits_change, fits_cut, changed_at, cut_out}
 use Rattle.orders.specs.declared.rows.Rows.{Rows}
-use Rattle.orders.specs.Edits.{taken, free, fits_order, after_order, fits_mass, after_mass}
+use Rattle.orders.specs.Edits.{fits_order, after_order, fits_mass, after_mass}
 use Rattle.orders.specs.Rows.{Held, Puts, row}
 use Rattle.orders.proofs.Fitting.{and_given, row_room, change_taken, top_taken, bottom_taken, bottom_cut}
 

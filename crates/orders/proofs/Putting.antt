@@ -1,5 +1,5 @@
 -- a list that is put in the place of a row
-use Rattle.std.proofs.Common.{◌≡◌, ℕ, ◌+◌, ◌-◌, ◌*◌, ◌<◌, ◌≤◌, min, Bool, true, false, cond, ◌≢◌, ◌⊎◌, List, length, get_or, take, drop, set, sym, refl, ap, ◌∙◌, subst, inl, inr, ⊎_elim, arith, Bor, rules}
+use Rattle.std.proofs.Common.{◌≡◌, ℕ, ◌+◌, ◌*◌, ◌<◌, ◌≤◌, Bool, true, false, cond, List, length, get_or, take, drop, set, refl, ap, ◌∙◌, subst, ⊎_elim, arith, MutBor, rules}
 use borrow.Rule.Slice.PartMut.{put_mid}
 use Rattle.std.proofs.lemmas.List.{get_or-set_same, get_or-set_other, length-set, length-take, length-drop, set-get_or, take-take, same_lists, places}
 use Rattle.std.proofs.lemmas.Slice.{take-put_mid_below, drop-put_mid}
@@ -16,10 +16,10 @@ row-length s r h l =
     omega (arith, h.within r l, length-take n (drop (r * s.depth) s.table.now), length-drop (r * s.depth) s.table.now)
 
 -- the rows of s with another table and another length for row r
-abbrev pub with : Rows → Bor (List Order) → ℕ → ℕ → Rows
+abbrev pub with : Rows → MutBor (List Order) → ℕ → ℕ → Rows
 with s u r m = record { table = u; lens = set s.lens r m; depth = s.depth; count = s.count }
 
-module _ (s : Rows) (u : Bor (List Order)) (r m : ℕ) (l : List Order) (h : Held s) (i : r < s.count) (f : m ≤ s.depth) (e : length u.now ≡ length s.table.now) where
+module _ (s : Rows) (u : MutBor (List Order)) (r m : ℕ) (l : List Order) (h : Held s) (i : r < s.count) (f : m ≤ s.depth) (e : length u.now ≡ length s.table.now) where
   lens-here : get_or (set s.lens r m) r 0 ≡ m
   lens-here = get_or-set_same s.lens r m 0 (omega (arith, h.lens, h.count))
 
@@ -66,7 +66,7 @@ module _ (s : Rows) (r k : ℕ) (h : Held s) (i : r < s.count) (w : k ≡ s.dept
   pub part_row : take (get_or s.lens r 0) (take k (drop (r * s.depth) s.table.now)) ≡ row s r
   part_row = take-take (get_or s.lens r 0) k (drop (r * s.depth) s.table.now) (omega (arith, h.within r i))
 
-  module _ (u : Bor (List Order)) (ys : List Order) (y : length ys ≡ k) (e : u.now ≡ put_mid (r * s.depth) k s.table.now ys) where
+  module _ (u : MutBor (List Order)) (ys : List Order) (y : length ys ≡ k) (e : u.now ≡ put_mid (r * s.depth) k s.table.now ys) where
     t : List Order
     t = s.table.now
 

@@ -1,5 +1,5 @@
 -- what is shown of rows and slots
-use Rattle.std.proofs.Common.{◌≡◌, ℕ, suc, ◌+◌, ◌-◌, ◌*◌, ◌<◌, ◌≤◌, Bool, true, false, cond, ltb, List, [], ◌∷◌, length, get_or, drop, Some, None, Option, sym, refl, ap, ◌∙◌, arith}
+use Rattle.std.proofs.Common.{◌≡◌, ℕ, ◌+◌, ◌-◌, ◌*◌, ◌<◌, ◌≤◌, Bool, true, false, cond, ltb, List, [], length, get_or, drop, Some, None, Option, sym, refl, ap, ◌∙◌, arith}
 use Rattle.std.proofs.lemmas.List.{get_or_past, get_or-take, get_or-drop}
 use Rattle.std.proofs.lemmas.Option.{slice_get-get_or, slice_get_past}
 use Rattle.std.proofs.lemmas.Bool.{lt-ltb, cond-true}
@@ -8,8 +8,8 @@ use Rattle.orders.specs.declared.rows.Rows.{Rows}
 use Rattle.orders.specs.declared.order_store.OrderStore.{OrderStore}
 use Rattle.orders.specs.declared.side.Side.{Side}
 use Rattle.orders.specs.declared.side.Side.TheVariants.{Bid, Offer}
-use Rattle.orders.specs.Book.{Book, empty_book}
-use Rattle.orders.specs.Rows.{Held, row, book_at}
+use Rattle.orders.specs.Book.{empty_book}
+use Rattle.orders.specs.Rows.{Held, row}
 use Rattle.orders.specs.Shown.{of_side, at_position, shown}
 use Rattle.orders.proofs.Putting.{row-length}
 use Rattle.orders.proofs.Slots.{books, books-length, book-value}

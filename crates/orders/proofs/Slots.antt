@@ -1,5 +1,5 @@
 -- a book that is put, as the store's model has it
-use Rattle.std.proofs.Common.{◌≡◌, ℕ, ◌+◌, ◌*◌, ◌<◌, ◌≤◌, Bool, true, false, cond, ◌⊎◌, List, map, length, get_or, set, sym, refl, ap, ◌∙◌, subst, ⊎_elim, arith}
+use Rattle.std.proofs.Common.{◌≡◌, ℕ, ◌+◌, ◌*◌, ◌<◌, ◌≤◌, List, map, length, get_or, set, sym, ap, ◌∙◌, ⊎_elim, arith}
 use Rattle.std.specs.List.{range_with_len}
 use Rattle.std.proofs.lemmas.List.FromFn.{length-map-range_with_len, get_or-map-range_with_len}
 use Rattle.std.proofs.lemmas.List.{same_lists, length-set, get_or-set_same, get_or-set_other}
@@ -9,10 +9,9 @@ use Rattle.store.specs.Calls.{with_slot, with_staged}
 use Rattle.orders.specs.declared.due.Due.{Due}
 use Rattle.orders.specs.declared.rows.Rows.{Rows}
 use Rattle.orders.specs.declared.order_store.OrderStore.{OrderStore}
-use Rattle.orders.specs.Book.{Book, empty_book}
+use Rattle.orders.specs.Book.{Book}
 use Rattle.orders.specs.Kind.{Setup, orders}
 use Rattle.orders.specs.Rows.{Held, PutsBook, row, book_at}
-use Rattle.orders.specs.Model.{model_of}
 
 abbrev pub books : Rows → ℕ → List Book
 books r n = map (book_at r) (range_with_len 1 n)

@@ -1,5 +1,5 @@
 -- Which messages fit a side with room for d orders, and the side after each.
-use Rattle.std.specs.Prelude.{ℕ, ◌+◌, ◌-◌, Bool, cond, ◌&&◌, ◌||◌, List, length, take, drop, ◌==◌, nat_le, nat_lt}
+use Rattle.std.specs.Prelude.{ℕ, ◌+◌, ◌-◌, Bool, cond, ◌&&◌, ◌||◌, List, take, drop, ◌==◌, nat_le, nat_lt}
 use Rattle.layout.specs.declared.kinds.Actions.{Actions}
 use Rattle.message.specs.declared.values.Order.{Order}
 use Rattle.message.specs.declared.values.OrderFields.{OrderFields}

@@ -1,5 +1,5 @@
 -- Images of a book fill it, and pieces of no concern change nothing.
-use Rattle.std.specs.Prelude.{◌≡◌, ℕ, suc, ◌+◌, ◌-◌, ◌≤◌, Bool, true, false, cond, ◌&&◌, ◌⊎◌, List, [], ◌∷◌, ◌++◌, length, ◌==◌, nat_eq}
+use Rattle.std.specs.Prelude.{◌≡◌, ℕ, suc, ◌+◌, ◌-◌, true, false, ◌&&◌, List, [], ◌∷◌, ◌++◌, length, ◌==◌, nat_eq}
 use Rattle.std.proofs.Math.Path.{refl, subst}
 use Rattle.std.proofs.Common.{sym, ap, arith}
 use Rattle.std.proofs.Math.Logic.{inl, inr}
@@ -7,7 +7,6 @@ use mathlib.Core.List.{append_assoc, append-nil}
 use Rattle.std.proofs.lemmas.List.{length_push, nil_from_length}
 use Rattle.std.proofs.lemmas.Bool.{eqb-true, le-leb, and_parts, and_from, eq-eqb, true≢false}
 use Rattle.message.specs.declared.values.Order.{Order}
-use Rattle.message.specs.declared.values.HeaderFields.{HeaderFields}
 use Rattle.message.specs.Meaning.{Part, entry, number, torn}
 use Rattle.store.specs.Law.{Fills, ImageLaw, Sound}
 use Rattle.orders.specs.declared.due.Due.{Due}

@@ -1,5 +1,5 @@
 -- What a store of books holds.
-use Rattle.std.specs.Prelude.{ℕ, map}
+use Rattle.std.specs.Prelude.{map}
 use Rattle.std.specs.List.{range_with_len}
 use Rattle.store.specs.Kind.{Model}
 use Rattle.orders.specs.declared.due.Due.{Due}

@@ -6,7 +6,6 @@ use Rattle.store.specs.Calls.{value_at}
 use Rattle.orders.specs.declared.order_store.OrderStore.{OrderStore}
 use Rattle.orders.specs.declared.side.Side.{Side}
 use Rattle.orders.specs.declared.side.Side.TheVariants.{Bid, Offer}
-use Rattle.orders.specs.Book.{Book}
 use Rattle.orders.specs.Kind.{orders}
 use Rattle.orders.specs.Model.{setup_of, model_of}
 

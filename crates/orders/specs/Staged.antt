@@ -1,5 +1,5 @@
 -- A book that is staged, and the orders of each side that are owed to it.
-use Rattle.std.specs.Prelude.{ℕ, ◌+◌, ◌-◌, Bool, true, false, ◌&&◌, List, [], ◌∷◌, ◌++◌, length, ◌==◌, nat_lt}
+use Rattle.std.specs.Prelude.{ℕ, ◌+◌, ◌-◌, Bool, true, false, ◌&&◌, [], ◌∷◌, ◌++◌, length, ◌==◌, nat_lt}
 use Rattle.message.specs.declared.values.EntryFields.{EntryFields}
 use Rattle.message.specs.Meaning.{Part, entry, number, torn}
 use Rattle.orders.specs.Book.{Book, is_side, on_side, side_of, with_side}

@@ -1,6 +1,6 @@
 -- Images of a count fill it.
 use Rattle.std.specs.Prelude.{◌≡◌, ℕ, suc, ◌+◌, ◌-◌, ◌≤◌, true, false, List, [], ◌∷◌, ◌==◌, refl}
-use Rattle.std.proofs.Common.{sym, ap, subst, arith}
+use Rattle.std.proofs.Common.{arith}
 use Rattle.std.proofs.lemmas.Bool.{eqb-true, le-leb, lt-ltb, and_from, true≢false}
 use Rattle.message.specs.Meaning.{Part, entry, number, torn}
 use Rattle.store.specs.Law.{Fills, ImageLaw, Sound as SoundKind}

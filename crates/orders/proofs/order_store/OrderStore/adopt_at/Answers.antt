@@ -8,7 +8,7 @@ pub invariant_of-self : goal.invariant_of-self
 invariant_of-self c =
     let s = c.args.self.now in
     let k = sound_slot s _ c.args.slot _ (in_slots s c.args.slot c.requires) c.copy_book.ensures in
-    (k.lens, (s.few, (k.shallow, (k.count, (k.table, (k.within, (k.bids, (k.offers, tt))))))))
+    record { lens = k.lens; few = s.few; shallow = k.shallow; count = k.count; table = k.table; within = k.within; bids = k.bids; offers = k.offers }
 
 pub returns : goal.returns
 returns c =

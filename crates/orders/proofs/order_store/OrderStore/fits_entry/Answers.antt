@@ -1,4 +1,4 @@
-use Rattle.std.proofs.Common.{arith, rules}
+use Rattle.std.proofs.Common.{rules}
 use Rattle.orders.proofs.order_store.OrderStore.fits_entry.Goals as goal
 
 pub overflow_add-len : goal.overflow_add-len

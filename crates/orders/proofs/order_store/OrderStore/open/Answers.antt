@@ -1,5 +1,4 @@
-use Rattle.std.proofs.Common.{◌≡◌, ℕ, ◌+◌, ◌*◌, ◌≤◌, [], map, length, replicate, sym, refl, ap, ◌∙◌, subst, arith}
-use Rattle.std.specs.List.{range_with_len}
+use Rattle.std.proofs.Common.{ℕ, ◌+◌, ◌*◌, ◌≤◌, length, replicate, sym, refl, ap, ◌∙◌, subst, arith}
 use Rattle.orders.specs.Book.{empty_book}
 use Rattle.orders.specs.Rows.{book_at}
 use Rattle.orders.proofs.Fresh.{open_bounds, books_fit, map_same, empty_at}
@@ -12,25 +11,17 @@ empty_rows-requires c =
 
 pub invariant_of-result : goal.invariant_of-result
 invariant_of-result c =
-    let e = c.empty_rows.ensures in (
-      e.held.lens,
-      (
-        omega (arith, c.slots_in-slots.ensures),
-        (
-          omega (arith, e.size.0, (open_bounds c.args.depth (length c.args.table.now) c.requires).1),
-          (
-            e.size.1,
-            (
-              e.held.table,
-              (
-                e.held.within,
-                (omega (arith, ap length (e.rows 0)), (omega (arith, ap length (e.rows 1)), tt)),
-              ),
-            ),
-          ),
-        ),
-      ),
-    )
+    let e = c.empty_rows.ensures in
+    record {
+      lens = e.held.lens;
+      few = omega (arith, c.slots_in-slots.ensures);
+      shallow = omega (arith, e.size.0, (open_bounds c.args.depth (length c.args.table.now) c.requires).1);
+      count = e.size.1;
+      table = e.held.table;
+      within = e.held.within;
+      bids = omega (arith, ap length (e.rows 0));
+      offers = omega (arith, ap length (e.rows 1));
+    }
 
 pub returns : goal.returns
 returns c =

@@ -1,4 +1,4 @@
-use Rattle.std.proofs.Common.{◌≡◌, ℕ, ◌+◌, ◌-◌, ◌*◌, ◌≤◌, length, get_or, take, sym, refl, ap, ◌∙◌, arith, rules}
+use Rattle.std.proofs.Common.{◌≡◌, ℕ, ◌+◌, ◌-◌, ◌*◌, get_or, take, refl, ap, ◌∙◌, arith, rules}
 use Rattle.positions.specs.Positions.{fits_change, changed_at}
 use Rattle.orders.proofs.Spans.{span_in}
 use Rattle.orders.proofs.Putting.{row-length, part_length, part_row, part_same, either}

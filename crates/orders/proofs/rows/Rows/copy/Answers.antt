@@ -1,4 +1,4 @@
-use Rattle.std.proofs.Common.{◌≡◌, ℕ, ◌+◌, ◌-◌, ◌*◌, ◌≤◌, length, get_or, take, drop, ap, ◌∙◌, arith, rules}
+use Rattle.std.proofs.Common.{◌≡◌, ℕ, ◌+◌, ◌-◌, ◌*◌, ◌≤◌, length, get_or, take, drop, ap, ◌∙◌, arith}
 use Rattle.orders.proofs.Spans.{span_in, copied_length, copied_here, copied_below, copied_above}
 use Rattle.orders.proofs.Putting.{puts}
 use Rattle.orders.proofs.rows.Rows.copy.Goals as goal
@@ -9,7 +9,7 @@ copy_within-requires c =
     let h = span_in c.args.from s.count s.depth _ c.requires.1 c.requires.0.table in
     let l = span_in c.args.to s.count s.depth _ c.requires.2 c.requires.0.table in
     let w = c.requires.0.within c.args.from c.requires.1 in
-    record { start-le-end = omega arith; in_bounds = omega (arith, h, w); dest-in-bounds = omega (arith, l, w); not-exhausted = tt }
+    record { start_le_end = omega arith; in_bounds = omega (arith, h, w); dest_in_bounds = omega (arith, l, w); not_exhausted = tt }
 
 pub returns : goal.returns
 returns c =

@@ -1,4 +1,4 @@
-use Rattle.std.proofs.Common.{◌≡◌, ℕ, ◌+◌, ◌-◌, ◌*◌, ◌≤◌, length, get_or, take, sym, refl, ap, ◌∙◌, arith, rules}
+use Rattle.std.proofs.Common.{◌≡◌, ℕ, ◌+◌, ◌-◌, ◌*◌, get_or, take, sym, refl, ap, ◌∙◌, arith, rules}
 use Rattle.positions.specs.Positions.{fits_cut, cut_out}
 use Rattle.positions.proofs.Bounds.{cut_bounds}
 use Rattle.orders.proofs.Spans.{span_in}

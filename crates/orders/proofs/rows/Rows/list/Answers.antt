@@ -1,4 +1,4 @@
-use Rattle.std.proofs.Common.{arith, rules}
+use Rattle.std.proofs.Common.{rules}
 use Rattle.orders.proofs.Spans.{span_in}
 use Rattle.orders.proofs.rows.Rows.list.Goals as goal
 

@@ -1,4 +1,4 @@
-use Rattle.std.proofs.Common.{◌≡◌, ◌+◌, ◌*◌, length, get_or, take, drop, set, refl, ap, ◌∙◌, arith, rules}
+use Rattle.std.proofs.Common.{◌+◌, ◌*◌, get_or, take, drop, ap, ◌∙◌, arith, rules}
 use Rattle.std.proofs.lemmas.List.{take-set-le, drop-set-lt, drop-set-add, take_more_set, length-set, length-drop}
 use Rattle.orders.proofs.Spans.{span_in}
 use Rattle.orders.proofs.Putting.{row-length, puts}
