@@ -1,3 +1,5 @@
+#![tactic(auto)]
+
 pub mod edit;
 pub mod figures;
 pub mod note;

@@ -1,4 +1,4 @@
-use Rattle.std.proofs.Common.{◌≡◌, ◌+◌, ◌<◌, ◌≤◌, length, sym, arith}
+use Rattle.std.proofs.Common.{arith}
 use Rattle.numbering.proofs.Places.{here-is, touches-above}
 use Rattle.numbering.proofs.Enters.{entered-lower, entered-alone, above-none, above-here}
 use Rattle.numbering.proofs.edit.enter.Goals as goal
@@ -32,4 +32,4 @@ returns c =
           above-here c.args.n c.args.p w.index.result.now xs _ here (grind (arith, w.if-low-n.false, w.if-n-low.false)))
       | else-p-len w ↦ above-none c.args.n c.args.p xs (omega (arith, w.if-p-len.false, c.len.ensures, c.args.spans.now.ok.0))
     ])
-    c.in-ok-insert.ensures.items
+    c.in_ok-insert.ensures.items

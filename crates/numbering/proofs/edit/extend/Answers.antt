@@ -1,11 +1,11 @@
-use Rattle.std.proofs.Common.{◌≡◌, ◌+◌, ◌<◌, ◌≤◌, length, sym, arith}
+use Rattle.std.proofs.Common.{◌+◌, arith}
 use Rattle.numbering.proofs.Places.{here-is, next_above}
 use Rattle.numbering.proofs.Enters.{entered-between, entered-higher, above-none, above-here}
 use Rattle.numbering.proofs.edit.extend.Goals as goal
 use Rattle.numbering.proofs.edit.extend.Goals.{then-p-len+else-low-n, else-p-len}
 
-pub overflow-sub-low : goal.overflow-sub-low
-overflow-sub-low c =
+pub overflow_sub-low : goal.overflow_sub-low
+overflow_sub-low c =
     let xs = c.args.spans.now.items in
     let next = here-is xs (c.args.p + 1) c.len.result c.index.result.now c.index.ensures c.if-p-len.true (omega (arith, c.len.ensures, c.args.spans.now.ok.0)) in
     omega (arith, next_above xs c.args.p c.args.span c.index.result.now c.requires.rises c.requires.here next)

@@ -1,13 +1,13 @@
-use Rattle.std.proofs.Common.{◌≡◌, ℕ, ◌+◌, ◌-◌, ◌/◌, ◌<◌, ◌≤◌, List, length, take, drop, sym, refl, subst, arith}
+use Rattle.std.proofs.Common.{ℕ, ◌+◌, ◌-◌, ◌/◌, ◌<◌, ◌≤◌, List, length, take, drop, sym, refl, subst, arith}
 use Rattle.numbering.specs.declared.span.Span.{Span}
 use Rattle.numbering.specs.Spans.{Clear, Near}
 use Rattle.numbering.proofs.Places.{near-end, near_at, clear_more}
 use Rattle.numbering.proofs.place.place.Goals as goal
-use Rattle.numbering.proofs.place.place.Goals.{then-saturating-sub-gt1, else-saturating-sub-gt1}
+use Rattle.numbering.proofs.place.place.Goals.{then-saturating_sub-gt1, else-saturating_sub-gt1}
 
 pub loop-low-init : goal.loop-low-init
 loop-low-init c =
-    (omega arith, omega arith, λ h. omega arith, λ h. omega (arith, c.saturating-sub-middle.ensures), tt, near-end _ c.args.n c.args.spans.now refl)
+    (omega arith, omega arith, λ h. omega arith, λ h. omega (arith, c.saturating_sub-middle.ensures), tt, near-end _ c.args.n c.args.spans.now refl)
 
 -- one step of the search: the part that is left has its middle, and what was passed over stands clear or near
 step :
@@ -28,13 +28,13 @@ loop-low-preserved c =
     let within : c.loop-low.high ≤ length xs = inv.0 in
     let C : ℕ → Type 0 = λ k. Clear n (take k xs) in
     let N : ℕ → Type 0 = λ k. Near n (drop k xs) in
-    elim c.if-saturating-sub-gt1.branch [
-      | then-saturating-sub-gt1 w ↦
-          step xs n c.if-saturating-sub-gt1.low c.if-saturating-sub-gt1.high (length xs) (omega (arith, w.high-is, within)) (omega (arith, w.low-is, w.high-is, upper))
-          (subst C (sym w.low-is) (clear_more middle n (record { low = 0; high = 0 }) xs c.requires (omega arith) (omega (arith, w.if-saturating-sub-gt1.true, c.saturating-sub.ensures))))
+    elim c.if-saturating_sub-gt1.branch [
+      | then-saturating_sub-gt1 w ↦
+          step xs n c.if-saturating_sub-gt1.low c.if-saturating_sub-gt1.high (length xs) (omega (arith, w.high-is, within)) (omega (arith, w.low-is, w.high-is, upper))
+          (subst C (sym w.low-is) (clear_more middle n (record { low = 0; high = 0 }) xs c.requires (omega arith) (omega (arith, w.if-saturating_sub-gt1.true, c.saturating_sub.ensures))))
           (subst N (sym w.high-is) inv.5)
-      | else-saturating-sub-gt1 w ↦
-          step xs n c.if-saturating-sub-gt1.low c.if-saturating-sub-gt1.high (length xs) (omega (arith, w.high-is, within, upper)) (omega (arith, w.low-is, w.high-is, lower))
+      | else-saturating_sub-gt1 w ↦
+          step xs n c.if-saturating_sub-gt1.low c.if-saturating_sub-gt1.high (length xs) (omega (arith, w.high-is, within, upper)) (omega (arith, w.low-is, w.high-is, lower))
           (subst C (sym w.low-is) inv.4)
-          (subst N (sym w.high-is) (near_at middle n (record { low = 0; high = 0 }) xs (omega arith) (omega (arith, w.if-saturating-sub-gt1.false, c.saturating-sub.ensures))))
+          (subst N (sym w.high-is) (near_at middle n (record { low = 0; high = 0 }) xs (omega arith) (omega (arith, w.if-saturating_sub-gt1.false, c.saturating_sub.ensures))))
     ]

@@ -1,11 +1,11 @@
-use Rattle.std.proofs.Common.{◌≡◌, ◌^◌, ◌<◌, ◌≤◌, true, false, arith}
+use Rattle.std.proofs.Common.{◌^◌, arith}
 use Rattle.std.proofs.lemmas.Bool.{both_ways}
 use Rattle.numbering.specs.Members.{has}
 use Rattle.numbering.proofs.Ends.{came-and-lacking}
 use Rattle.numbering.proofs.numbers.Numbers.missing.Goals as goal
 
-pub overflow-sub-result-in-Some-Some : goal.overflow-sub-result-in-Some-Some
-overflow-sub-result-in-Some-Some c =
+pub overflow_sub-result-in-Some-Some : goal.overflow_sub-result-in-Some-Some
+overflow_sub-result-in-Some-Some c =
     let f = has c.args.self.now in
     let all = came-and-lacking f c.in-Some-Some.first c.in-Some-Some.last (2 ^ 32) c.in-Some-Some.ensures c.in-Some-Some.ensures' (omega arith) in
     omega (arith, all.0, all.1, c.args.self.now.total, c.from.ensures, c.from-in-Some-Some.ensures)

@@ -6,16 +6,16 @@ use Rattle.numbering.proofs.stream.Stream.note.Goals.{in-New, in-Repeated, in-La
 
 pub returns : goal.returns
 returns c = λ before stands.
-    let answer = c.in-ok-note.ensures.answer in
-    let members = c.in-ok-note.ensures.members in
+    let answer = c.in_ok-note.ensures.answer in
+    let members = c.in_ok-note.ensures.members in
     elim c.match-branch-2.branch [
       | in-New w ↦
-          stands_by c.args.self.now c.match-branch-2.self _ _ c.args.n _ New before stands answer w.in-New.is members w.self-is refl c.saturating-add-self-2.ensures
+          stands_by c.args.self.now c.match-branch-2.self _ _ c.args.n _ New before stands answer w.in-New.is members w.self-is refl c.saturating_add-self-2.ensures
           (omega (arith, stands.repeated)) (omega (arith, stands.late))
       | in-Repeated w ↦
-          stands_by c.args.self.now c.match-branch-2.self _ _ c.args.n _ Repeated before stands answer w.in-Repeated.is members w.self-is refl c.saturating-add-self-2.ensures
-          w.saturating-add-self.ensures (omega (arith, stands.late))
+          stands_by c.args.self.now c.match-branch-2.self _ _ c.args.n _ Repeated before stands answer w.in-Repeated.is members w.self-is refl c.saturating_add-self-2.ensures
+          w.saturating_add-self.ensures (omega (arith, stands.late))
       | in-Late w ↦
-          stands_by c.args.self.now c.match-branch-2.self _ _ c.args.n _ Late before stands answer w.in-Late.is members w.self-is refl c.saturating-add-self-2.ensures
-          (omega (arith, stands.repeated)) w.saturating-add-self-in-Late.ensures
+          stands_by c.args.self.now c.match-branch-2.self _ _ c.args.n _ Late before stands answer w.in-Late.is members w.self-is refl c.saturating_add-self-2.ensures
+          (omega (arith, stands.repeated)) w.saturating_add-self-in-Late.ensures
     ]
