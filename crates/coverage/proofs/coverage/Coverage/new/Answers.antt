@@ -4,8 +4,8 @@ use Rattle.coverage.proofs.coverage.Coverage.new.Goals as goal
 
 pub loop-heap-preserved : goal.loop-heap-preserved
 loop-heap-preserved c =
-    let pushed = c.in-ok-push.ensures in
+    let pushed = c.in_ok-push.ensures in
     let len = pushed.len in (
       omega arith,
-      clear-push _ _ c.in-ok-new.field-0 _ _ _ c.loop-heap.bands.ok.0 pushed.items pushed.len c.in-ok-new.ensures c.loop-heap.invariant.1,
+      clear-push _ _ c.in_ok-new.field-0 _ _ _ c.loop-heap.bands.ok.0 pushed.items pushed.len c.in_ok-new.ensures c.loop-heap.invariant.1,
     )

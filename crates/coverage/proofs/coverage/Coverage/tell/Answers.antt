@@ -5,8 +5,8 @@ use Rattle.coverage.specs.Shades.{level_of}
 use Rattle.coverage.proofs.Ends.{beside_twice, passed_over}
 use Rattle.coverage.proofs.coverage.Coverage.tell.Goals as goal
 
-pub returns-in-ok-turn : goal.returns-in-ok-turn
-returns-in-ok-turn c =
+pub returns-in_ok-turn : goal.returns-in_ok-turn
+returns-in_ok-turn c =
     let first = c.turn.ensures in
     let second = c.turn-then-level-eq1.ensures in
     let A : ℕ → Type 0 =
@@ -19,7 +19,7 @@ returns-in-ok-turn c =
           let P : ℕ → Type 0 =
           λ next.
           Passed (band_at c.args.self.now c.args.slot d) (band_at c.turn-then-level-eq1.new.self c.args.slot d) next c.args.heard (level_of c.args.shade) in
-          subst P c.saturating-add-next.ensures
-          (passed_over c.args.self.now c.turn.new.self c.turn-then-level-eq1.new.self c.args.slot c.saturating-add-next.result c.args.heard (level_of c.args.shade)
+          subst P c.saturating_add-next.ensures
+          (passed_over c.args.self.now c.turn.new.self c.turn-then-level-eq1.new.self c.args.slot c.saturating_add-next.result c.args.heard (level_of c.args.shade)
           c.if-next-heard.true (omega (arith, c.level.ensures, c.if-level-eq1.true)) first.beside first.turned second.turned d in-range);
     }
