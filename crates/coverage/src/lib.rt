@@ -1,3 +1,5 @@
+#![tactic(auto)]
+
 pub mod band;
 pub mod cells;
 pub mod coverage;
