@@ -1,10 +1,10 @@
 -- What entering a number does to spans: a change behind the spans that stand clear of the number.
-use Rattle.std.proofs.Common.{◌≡◌, ℕ, suc, ◌+◌, ◌<◌, ◌≤◌, Bool, true, false, ◌&&◌, ◌||◌, eqb, leb, List, [], ◌∷◌, ◌++◌, length, take, drop, set, sym, refl, ap, ◌∙◌, subst, arith}
+use Rattle.std.proofs.Common.{◌≡◌, ℕ, suc, ◌+◌, ◌<◌, ◌≤◌, Bool, true, false, ◌||◌, eqb, List, [], ◌∷◌, ◌++◌, length, take, drop, set, sym, refl, ap, ◌∙◌, subst, arith}
 use Rattle.std.specs.List.{remove}
 use Rattle.std.proofs.lemmas.Bool.Decides.{nat_tests}
 use Rattle.std.proofs.lemmas.List.{take-append-drop, drop_all, take_more_set, append_assoc, drop-set-lt}
 use Rattle.numbering.specs.declared.span.Span.{Span}
-use Rattle.numbering.specs.Spans.{inside, held, Rises, Clear, Near, Entered}
+use Rattle.numbering.specs.Spans.{inside, held, Rises, Clear, Entered}
 
 alone : (s : Span) (n m : ℕ) → s.low ≡ n → s.high ≡ n → inside s m ≡ eqb m n
 alone s n m l h = grind (arith, nat_tests)

@@ -1,13 +1,11 @@
 -- What a note does to the figures of a stream.
-use Rattle.std.proofs.Common.{◌≡◌, ℕ, ◌+◌, ◌-◌, ◌^◌, ◌<◌, ◌≤◌, min, Bool, true, false, cond, not, ◌&&◌, ◌||◌, eqb, ltb, leb, List, [], ◌∷◌, Some, None, Option, sym, refl, ap, ◌∙◌, subst, ⊎_elim, arith}
-use Rattle.std.proofs.lemmas.Bool.Decides.{nat_tests}
-use Rattle.std.proofs.lemmas.Bool.{cases_lt, cases_Bool, both_ways, or_left, or_right, or_cases, or_from, eqb-true, eq-eqb, lt-ltb, le-ltb}
+use Rattle.std.proofs.Common.{◌≡◌, ℕ, ◌+◌, ◌^◌, ◌<◌, Bool, true, false, cond, not, ◌&&◌, eqb, ltb, leb, List, [], ◌∷◌, Some, None, Option, sym, refl, ap, ◌∙◌, ⊎_elim, arith}
+use Rattle.std.proofs.lemmas.Bool.{cases_Bool, both_ways, or_left, or_right, or_cases, or_from, eqb-true, eq-eqb, lt-ltb, le-ltb}
 use Rattle.numbering.specs.declared.seen.Seen.{Seen}
 use Rattle.numbering.specs.declared.seen.Seen.TheVariants.{New, Repeated, Late}
 use Rattle.numbering.specs.Answer.{Answer, Lowest, Highest}
 use Rattle.numbering.specs.Members.{Missing, lacking}
-use Rattle.numbering.specs.Counting.{count}
-use Rattle.numbering.specs.Streams.{came_in, higher_in, repeats, lates, capped}
+use Rattle.numbering.specs.Streams.{came_in, higher_in, repeats, lates}
 use Rattle.numbering.proofs.Counts.{count_same}
 
 higher_since : (before : List ℕ) (n m : ℕ) → n < m → came_in before m ≡ true → higher_in before n ≡ true

@@ -1,5 +1,5 @@
 -- A stream stands behind one number more.
-use Rattle.std.proofs.Common.{◌≡◌, ℕ, ◌+◌, ◌-◌, ◌^◌, min, Bool, ◌||◌, eqb, List, [], ◌∷◌, length, sym, ap, ◌∙◌, arith}
+use Rattle.std.proofs.Common.{◌≡◌, ℕ, ◌+◌, ◌-◌, ◌^◌, min, ◌||◌, eqb, List, ◌∷◌, length, sym, ap, ◌∙◌, arith}
 use Rattle.numbering.specs.declared.stream.Stream.{Stream}
 use Rattle.numbering.specs.declared.seen.Seen.{Seen}
 use Rattle.numbering.specs.Answer.{Answer}

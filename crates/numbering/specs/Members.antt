@@ -1,5 +1,5 @@
 -- Which numbers came, and how many between the lowest and the highest did not.
-use Rattle.std.specs.Prelude.{◌≡◌, ℕ, ◌^◌, Bool, false, not, ◌&&◌, Some, None, vec_items, nat_le}
+use Rattle.std.specs.Prelude.{◌≡◌, ℕ, ◌^◌, Bool, false, not, ◌&&◌, Some, vec_items, nat_le}
 use Rattle.numbering.specs.declared.numbers.Numbers.{Numbers}
 use Rattle.numbering.specs.Spans.{held}
 use Rattle.numbering.specs.Counting.{count}

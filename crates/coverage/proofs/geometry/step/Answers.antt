@@ -1,4 +1,4 @@
-use Rattle.std.proofs.Common.{◌+◌, ◌*◌, inr, arith}
+use Rattle.std.proofs.Common.{◌+◌, inr, arith}
 use Rattle.coverage.proofs.Rounds.{eleven_times, step_two, step_five, next_ten, after_five}
 use Rattle.coverage.proofs.geometry.step.Goals as goal
 

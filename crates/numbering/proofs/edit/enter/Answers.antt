@@ -1,4 +1,4 @@
-use Rattle.std.proofs.Common.{◌≡◌, ◌+◌, ◌<◌, ◌≤◌, length, sym, arith}
+use Rattle.std.proofs.Common.{arith}
 use Rattle.numbering.proofs.Places.{here-is, touches-above}
 use Rattle.numbering.proofs.Enters.{entered-lower, entered-alone, above-none, above-here}
 use Rattle.numbering.proofs.edit.enter.Goals as goal

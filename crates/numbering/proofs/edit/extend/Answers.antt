@@ -1,4 +1,4 @@
-use Rattle.std.proofs.Common.{◌≡◌, ◌+◌, ◌<◌, ◌≤◌, length, sym, arith}
+use Rattle.std.proofs.Common.{◌+◌, arith}
 use Rattle.numbering.proofs.Places.{here-is, next_above}
 use Rattle.numbering.proofs.Enters.{entered-between, entered-higher, above-none, above-here}
 use Rattle.numbering.proofs.edit.extend.Goals as goal

@@ -1,6 +1,5 @@
-use Rattle.std.proofs.Common.{◌≡◌, ◌+◌, ◌<◌, List, [], ◌∷◌, length, get_or, drop, refl, arith}
+use Rattle.std.proofs.Common.{◌+◌, ◌<◌, [], length, get_or, refl, arith}
 use Rattle.std.proofs.lemmas.List.{drop_more, drop_all}
-use Rattle.numbering.specs.declared.span.Span.{Span}
 use Rattle.numbering.proofs.Places.{below_all, late_below, repeated-in, new-above, late-between, near-here}
 use Rattle.numbering.proofs.place.seen_at.Goals as goal
 

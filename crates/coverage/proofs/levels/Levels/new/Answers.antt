@@ -5,4 +5,4 @@ use Rattle.coverage.proofs.levels.Levels.new.Goals as goal
 
 pub returns : goal.returns
 returns c =
-    (refl, tells_none _ (λ k lt. ap (λ l. get_or l k 0) (c.in_ok-cells.ensures.items-if-clones-equal (λ y e. e)) ∙ get_or-replicate 1024 k 0 0 lt))
+    (refl, tells_none _ (λ k lt. ap (λ l. get_or l k 0) (c.in_ok-cells.ensures.items_if_clones_equal (λ y e. e)) ∙ get_or-replicate 1024 k 0 0 lt))

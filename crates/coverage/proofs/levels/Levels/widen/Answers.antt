@@ -1,4 +1,4 @@
-use Rattle.std.proofs.Common.{◌≡◌, ℕ, ◌*◌, List, sym, refl, subst, arith}
+use Rattle.std.proofs.Common.{ℕ, ◌*◌, List, sym, refl, subst, arith}
 use Rattle.std.proofs.lemmas.List.{with_items_is}
 use Rattle.coverage.specs.Cells.{Halved}
 use Rattle.coverage.specs.Notes.{Tells}

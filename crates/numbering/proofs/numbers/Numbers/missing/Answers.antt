@@ -1,4 +1,4 @@
-use Rattle.std.proofs.Common.{◌≡◌, ◌^◌, ◌<◌, ◌≤◌, true, false, arith}
+use Rattle.std.proofs.Common.{◌^◌, arith}
 use Rattle.std.proofs.lemmas.Bool.{both_ways}
 use Rattle.numbering.specs.Members.{has}
 use Rattle.numbering.proofs.Ends.{came-and-lacking}

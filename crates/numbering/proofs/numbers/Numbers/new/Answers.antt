@@ -1,10 +1,10 @@
-use Rattle.std.proofs.Common.{◌≡◌, ◌^◌, true, false, sym, refl, ap, ◌∙◌}
+use Rattle.std.proofs.Common.{◌^◌, sym, ap}
 use Rattle.numbering.specs.Spans.{held, rising}
 use Rattle.numbering.proofs.Counts.{count_none}
 use Rattle.numbering.proofs.numbers.Numbers.new.Goals as goal
 
 pub invariant_of-result : goal.invariant_of-result
-invariant_of-result c = (
-  ap (λ l. rising 0 l) c.new.ensures.items,
-  (sym (count_none (held c.new.result.items) (2 ^ 32) (λ m. ap (λ l. held l m) c.new.ensures.items)), tt),
-)
+invariant_of-result c = record {
+  rises = ap (λ l. rising 0 l) c.new.ensures.items;
+  total = sym (count_none (held c.new.result.items) (2 ^ 32) (λ m. ap (λ l. held l m) c.new.ensures.items));
+}

@@ -1,7 +1,5 @@
-use Rattle.std.proofs.Common.{◌≡◌, ℕ, ◌+◌, ◌^◌, ◌<◌, ◌≤◌, Bool, true, false, List, length, take, drop, sym, refl, ap, ◌∙◌, subst, ⊎_elim, arith}
+use Rattle.std.proofs.Common.{◌^◌, ◌≤◌, List, length, take, drop, sym, ◌∙◌, subst, arith}
 use Rattle.numbering.specs.declared.span.Span.{Span}
-use Rattle.numbering.specs.declared.seen.Seen.{Seen}
-use Rattle.numbering.specs.declared.seen.Seen.TheVariants.{New, Repeated, Late}
 use Rattle.numbering.specs.Spans.{held, Rises, Clear, Near}
 use Rattle.numbering.specs.Answer.{Answer}
 use Rattle.numbering.proofs.Places.{rises_since, rising-since, absent-since}
@@ -51,6 +49,6 @@ invariant_of-self-in-New c =
     let K : List Span → Type 0 = λ l. Answer (held l) c.args.n c.seen_at-seen.result in
     let answer = subst K c.as_slice-2.ensures.value c.seen_at-seen.ensures in
     let out = absent-since before c.args.n c.seen_at-seen.result answer c.in-New.is in
-    let entered = c.in_ok-enter.ensures in
+    let entered = c.in_ok-enter-in-New.ensures in
     let more = count-more before (held c.enter.new.spans.items) c.args.n (2 ^ 32) (omega (arith, c.ranges.n)) out entered.1 in
-    (rising-since 0 c.enter.new.spans.items entered.0, (omega (arith, more, c.args.self.now.total), tt))
+    record { rises = rising-since 0 c.enter.new.spans.items entered.0; total = omega (arith, more, c.args.self.now.total) }

@@ -1,7 +1,8 @@
+use Rattle.std.proofs.Common.{rules}
 use Rattle.numbering.specs.Members.{has}
 use Rattle.numbering.specs.Streams.{came_in}
 use Rattle.numbering.proofs.Notes.{highest_like}
 use Rattle.numbering.proofs.stream.Stream.last.Goals as goal
 
 pub returns : goal.returns
-returns c = λ came stands. highest_like (has c.args.self.now.numbers) (came_in came) c.last.result stands.members c.last.ensures
+returns c = λ came stands. highest_like (has c.args.self.now.numbers) (came_in came) _ stands.members (search rules)
