@@ -118,7 +118,7 @@ fn incremental(
                 "books: one or two incremental feeds are wanted; name them with --incremental"
             )?;
             list_destinations(rt, finding)?;
-            Err(ASK.into())
+            Err(anyhow!(ASK))
         }
     }
 }
@@ -151,7 +151,7 @@ fn snapshot(
                 "books: the capture has several snapshot loops; name one with --snapshot, or none"
             )?;
             list_destinations(rt, finding)?;
-            Err(ASK.into())
+            Err(anyhow!(ASK))
         }
     }
 }
@@ -207,7 +207,7 @@ fn unclear(rt: &HostRuntime, streams: &[Stream]) -> anyhow::Result<()> {
     eprintln!(rt;
         "where the version changes, cut the capture there, or give --version; else give --channel"
     )?;
-    Err(ASK.into())
+    Err(anyhow!(ASK))
 }
 
 // The channel and version that nearly all packets of the feeds have.
@@ -283,7 +283,7 @@ fn instruments(
                 "books: the packets name more than 64 instruments; choose up to 64 with --watch"
             )?;
         }
-        return Err(ASK.into());
+        return Err(anyhow!(ASK));
     }
     let mut line = String::new(rt.alloc());
     for id in ids.as_slice() {

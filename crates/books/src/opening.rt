@@ -176,7 +176,7 @@ pub fn build(rt: &HostRuntime, asked: &Asked) -> anyhow::Result<()> {
     match asked.value(Setting::Out) {
         None => make(rt, asked, sheet, capture, None),
         Some(path) => {
-            let part = format!(rt.alloc(), "{path}.part")?;
+            let part = format!(in rt.alloc(); "{path}.part")?;
             make(rt, asked, sheet, capture, Some(part.as_str()))?;
             fs::rename(rt, part.as_str(), path)?;
             Ok(())

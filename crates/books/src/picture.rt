@@ -9,7 +9,7 @@ pub fn draw_coverage(rt: &HostRuntime, state: &mut State, path: &str) -> anyhow:
         coverage.finish(heard);
         let mut text = String::new(rt.alloc());
         draw(coverage, state.course.watch.as_slice(), &mut text)?;
-        let part = format!(rt.alloc(), "{path}.part")?;
+        let part = format!(in rt.alloc(); "{path}.part")?;
         fs::write(rt, part.as_str(), text.as_str())?;
         fs::rename(rt, part.as_str(), path)?;
     }

@@ -42,7 +42,7 @@ struct Task {
 fn word(words: &mut env::Args) -> anyhow::Result<String> {
     match words.next() {
         Some(word) => Ok(word),
-        None => Err(USAGE.into()),
+        None => Err(anyhow!(USAGE)),
     }
 }
 
@@ -50,7 +50,7 @@ fn word(words: &mut env::Args) -> anyhow::Result<String> {
 fn number(word: &str) -> anyhow::Result<u64> {
     match decimal(word.as_bytes()) {
         Some(n) => Ok(n),
-        None => Err(USAGE.into()),
+        None => Err(anyhow!(USAGE)),
     }
 }
 

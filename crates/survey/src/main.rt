@@ -33,8 +33,7 @@ fn load(rt: &HostRuntime, path: &str) -> anyhow::Result<Sheet> {
     let mut sheet = Sheet::blank(rt.alloc())?;
     if let Err(fault) = fill(&mut sheet, text.as_slice()) {
         let line = fault.line;
-        return Err(anyhow!(format!(
-            rt.alloc(),
+        return Err(anyhow!(format!(in rt.alloc();
             "{path}: line {line} breaks a rule of a layout sheet or is missing"
         )?));
     }
@@ -100,7 +99,7 @@ fn run(rt: &HostRuntime) -> anyhow::Result<()> {
     if let Some(fault) = fault {
         let at = fault.offset();
         let text = fault_text(fault);
-        return Err(anyhow!(format!(rt.alloc(), "{capture_path}: {text}, at byte {at}")?));
+        return Err(anyhow!(format!(in rt.alloc(); "{capture_path}: {text}, at byte {at}")?));
     }
     Ok(())
 }
