@@ -1,3 +1,5 @@
+#![tactic(auto)]
+
 pub mod axis;
 pub mod drawing;
 pub mod figures;
