@@ -1,3 +1,5 @@
+#![tactic(auto)]
+
 use anyhow::anyhow;
 use coverage::coverage::Coverage;
 use coverage::shade::Shade;
