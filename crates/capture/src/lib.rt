@@ -1,3 +1,5 @@
+#![tactic(auto)]
+
 pub mod count;
 pub mod fault;
 pub mod file;
