@@ -1,3 +1,5 @@
+#![tactic(auto)]
+
 pub mod filling;
 pub mod reader;
 pub mod showing;

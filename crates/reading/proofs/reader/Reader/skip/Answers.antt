@@ -1,4 +1,4 @@
-use Rattle.std.proofs.Common.{◌≡◌, ℕ, ◌-◌, ◌≤◌, List, length, take, vec_items, vec_len, refl, ap, ◌∙◌, arith, rules}
+use Rattle.std.proofs.Common.{ℕ, ◌-◌, ◌≤◌, List, length, take, vec_items, refl, ap, ◌∙◌, arith, rules}
 use Rattle.reading.proofs.Skips.{skipped}
 use Rattle.reading.proofs.reader.Reader.skip.Goals as goal
 
@@ -9,7 +9,7 @@ returns c =
     let xs = vec_items s.buffer in
     let long : s.held ≤ length xs = omega (arith, s.within, s.buffer.ok.0) in
     record {
-      bytes = ap (λ (l : List ℕ). take (s.held - u) l) c.copy-within.ensures.items ∙ skipped xs s.held c.args.used u long (omega (arith, c.min-used.ensures));
+      bytes = ap (λ (l : List ℕ). take (s.held - u) l) c.copy_within.ensures.items ∙ skipped xs s.held c.args.used u long (omega (arith, c.min-used.ensures));
       offset = search rules;
       format = refl;
     }
