@@ -1,16 +1,14 @@
 -- The record at the front of some bytes stays the same whatever bytes stand behind it.
-use Rattle.std.proofs.Common.{◌≡◌, ℕ, zero, suc, ◌+◌, ◌-◌, ◌*◌, ◌^◌, ◌<◌, ◌≤◌, Bool, true, false, cond, ltb, List, [], ◌∷◌, ◌++◌, length, get_or, take, drop, Ok, Err, Result, sym, refl, ap, ◌∙◌, sub-one, arith, length-append, length-drop}
+use Rattle.std.proofs.Common.{◌≡◌, ℕ, zero, suc, ◌+◌, ◌-◌, ◌*◌, ◌≤◌, cond, ltb, List, ◌++◌, length, take, drop, sym, refl, ap, ◌∙◌, arith, length-drop}
 use Rattle.std.proofs.lemmas.List.{get_or_append_left, drop-append-le, take-append-le}
 use Rattle.std.proofs.lemmas.Bool.{cond-false, le-ltb}
-use Rattle.std.proofs.lemmas.Bool.Decides.{nat_tests}
 use Rattle.capture.specs.declared.order.ByteOrder.{ByteOrder}
 use Rattle.capture.specs.declared.order.ByteOrder.TheVariants.{Little, Big}
-use Rattle.capture.specs.declared.fault.CaptureFault.{CaptureFault}
 use Rattle.capture.specs.declared.format.Format.{Format}
 use Rattle.capture.specs.Numbers.{little_at, big_at, number_at}
 use Rattle.capture.specs.Held.{Held, cut}
 use Rattle.capture.specs.Network.{link_held}
-use Rattle.capture.specs.Records.{captured, original, nanoseconds, time_of, record_held, wanted, size_of, onward, contents}
+use Rattle.capture.specs.Records.{captured, original, nanoseconds, time_of, record_held}
 
 little_front : (w r : List ℕ) (at n : ℕ) → at + n ≤ length w → little_at (w ++ r) at n ≡ little_at w at n
 little_front w r at zero h = refl

@@ -1,11 +1,10 @@
 -- Whole records, and what stands behind them.
-use Rattle.std.proofs.Common.{◌≡◌, ℕ, zero, suc, ◌+◌, ◌-◌, ◌<◌, ◌≤◌, true, false, List, [], ◌∷◌, ◌++◌, length, drop, Ok, Err, Result, sym, refl, ap, ◌∙◌, ⊎_elim, add-zero, arith, length-drop}
+use Rattle.std.proofs.Common.{◌≡◌, ℕ, zero, suc, ◌+◌, ◌<◌, ◌≤◌, true, List, [], ◌∷◌, ◌++◌, length, drop, Ok, Err, Result, sym, refl, ap, ◌∙◌, ⊎_elim, add-zero, arith, length-drop}
 use Rattle.std.proofs.lemmas.Bool.{cases_lt, false≢true}
 use Rattle.capture.specs.declared.fault.CaptureFault.{CaptureFault}
 use Rattle.capture.specs.declared.fault.CaptureFault.TheVariants.{RecordCut}
 use Rattle.capture.specs.declared.format.Format.{Format}
-use Rattle.capture.specs.Held.{Held}
-use Rattle.capture.specs.Records.{captured, record_held, wanted, size_of, contents}
+use Rattle.capture.specs.Records.{captured, record_held, wanted, contents}
 use Rattle.capture.specs.Joined.{faultless, RecordsJoin}
 use Rattle.capture.proofs.Windows.{contents_next, contents_fault, contents-end, wanted-whole, size-whole, size-cut, size_fault, agrees_taken}
 

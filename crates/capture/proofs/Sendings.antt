@@ -1,15 +1,14 @@
 -- A datagram is handed out as it was sent.
-use Rattle.std.proofs.Common.{◌≡◌, ℕ, ◌+◌, ◌-◌, ◌*◌, ◌/◌, ◌%◌, ◌<◌, ◌≤◌, Bool, true, false, cond, ◌&&◌, eqb, ltb, leb, List, [], ◌∷◌, ◌++◌, length, get_or, take, drop, sym, refl, ap, ◌∙◌, subst, arith, length-append}
+use Rattle.std.proofs.Common.{◌≡◌, ℕ, ◌+◌, ◌-◌, ◌*◌, ◌/◌, ◌<◌, ◌≤◌, true, false, ◌&&◌, ltb, leb, List, [], ◌∷◌, ◌++◌, length, get_or, take, drop, sym, refl, ap, ◌∙◌, arith, length-append}
 use Rattle.std.proofs.lemmas.Nat.{div-add-mod'}
 use Rattle.std.proofs.lemmas.List.{take_all, take_at, drop_at, drop-drop}
 use Rattle.std.proofs.lemmas.Bool.{cond-true, cond-false, le-ltb, and_from, and_right, eq-eqb, le-leb}
-use Rattle.std.proofs.lemmas.Bool.Decides.{nat_tests}
 use Rattle.capture.specs.declared.format.Link.{Link}
 use Rattle.capture.specs.declared.format.Link.TheVariants.{Ethernet, RawIp}
 use Rattle.capture.specs.Numbers.{big_at}
-use Rattle.capture.specs.Held.{Held, datagram, cut, fragment, no_udp}
+use Rattle.capture.specs.Held.{datagram}
 use Rattle.capture.specs.Network.{udp_length, udp_held, header_length, total_length, is_ipv4, is_udp, is_fragment, ipv4_held, tag_type, is_tag, untagged, typed_held, link_held}
-use Rattle.capture.specs.Sent.{Sent, Sendable, TagTypes, pair, quad, udp_bytes, ip_bytes, tag_bytes, frame_bytes, sent_over}
+use Rattle.capture.specs.Sent.{Sent, Sendable, TagTypes, pair, udp_bytes, ip_bytes, tag_bytes, frame_bytes, sent_over}
 use Rattle.capture.proofs.Tags.{untagged_tag, untagged-none}
 
 pair-value : (n : ℕ) (rest : List ℕ) → n < 65536 → big_at (pair n rest) 0 2 ≡ n

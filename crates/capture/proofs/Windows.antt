@@ -1,5 +1,5 @@
 -- What a window shows is what the file holds there.
-use Rattle.std.proofs.Common.{◌≡◌, ℕ, zero, suc, ◌+◌, ◌-◌, ◌<◌, ◌≤◌, Bool, true, false, cond, eqb, ltb, List, [], ◌∷◌, ◌++◌, length, drop, Ok, Err, Result, sym, refl, ap, ◌∙◌, subst, ⊎_elim, sub-one, arith, length-append}
+use Rattle.std.proofs.Common.{◌≡◌, ℕ, zero, suc, ◌+◌, ◌-◌, ◌<◌, ◌≤◌, Bool, true, false, cond, eqb, ltb, List, [], ◌∷◌, ◌++◌, length, drop, Ok, Err, Result, sym, refl, ap, ◌∙◌, ⊎_elim, sub-one, arith, length-append}
 use Rattle.std.proofs.lemmas.List.{append-nil, drop-append-le}
 use Rattle.std.proofs.lemmas.Bool.{cond-true, cond-false, cond_both, le-ltb, lt-ltb, ltb-true, ltb-false, eqb-true, eqb-false, false≢true, cases_lt}
 use Rattle.std.proofs.lemmas.Bool.Decides.{nat_tests}
@@ -7,9 +7,8 @@ use Rattle.capture.specs.declared.fault.CaptureFault.{CaptureFault}
 use Rattle.capture.specs.declared.fault.CaptureFault.TheVariants.{RecordCut, RecordLong}
 use Rattle.capture.specs.declared.format.Format.{Format}
 use Rattle.capture.specs.Header.{and_then}
-use Rattle.capture.specs.Window.{Move, end, more, taken, step_of, Agrees}
+use Rattle.capture.specs.Window.{end, more, taken, step_of, Agrees}
 use Rattle.capture.proofs.Fronts.{captured_front, held_front}
-use Rattle.capture.specs.Held.{Held}
 use Rattle.capture.specs.Records.{captured, record_held, wanted, size_of, onward, contents}
 
 contents_skip : (f : Format) (k : ℕ) (bs : List ℕ) (at : ℕ) → contents f k bs at ≡ contents f 0 (drop k bs) at

@@ -1,5 +1,5 @@
 -- How a datagram lies in a frame: Ethernet with its tags, IPv4, UDP.
-use Rattle.std.specs.Prelude.{ℕ, zero, suc, ◌+◌, ◌-◌, ◌*◌, ◌/◌, ◌%◌, Bool, cond, not, ◌&&◌, ◌||◌, List, [], ◌∷◌, length, take, drop, ◌==◌, nat_le, nat_lt, slice_index}
+use Rattle.std.specs.Prelude.{ℕ, zero, suc, ◌-◌, ◌*◌, ◌/◌, ◌%◌, Bool, cond, not, ◌&&◌, ◌||◌, List, [], ◌∷◌, length, take, drop, ◌==◌, nat_le, nat_lt, slice_index}
 use Rattle.capture.specs.declared.format.Link.{Link}
 use Rattle.capture.specs.declared.format.Link.TheVariants.{Ethernet, RawIp}
 use Rattle.capture.specs.Numbers.{big_at}

@@ -19,7 +19,8 @@ fn write_number(
     writeln!(
         out,
         "<text class=\"middle\" x=\"{at}\" y=\"{line}\">{shown}</text>"
-    )
+    )?;
+    Ok(())
 }
 
 // The axis at the bottom, with the round numbers among those that are told.
@@ -37,5 +38,6 @@ pub(crate) fn write_axis(out: &mut String, first: u64, numbers: u64, bottom: u64
     writeln!(
         out,
         "<text class=\"middle\" x=\"652\" y=\"{line}\">packet number</text>"
-    )
+    )?;
+    Ok(())
 }

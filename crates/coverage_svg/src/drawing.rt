@@ -27,5 +27,6 @@ pub fn draw(coverage: &Coverage, instruments: &[u64], out: &mut String) -> fmt::
     if let Some(band) = bands.first() {
         write_heading(out, band.first(), band.numbers(), band.shades().width())?;
     }
-    writeln!(out, "</svg>")
+    writeln!(out, "</svg>")?;
+    Ok(())
 }

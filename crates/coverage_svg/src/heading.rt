@@ -59,5 +59,6 @@ pub(crate) fn write_heading(out: &mut String, first: u64, numbers: u64, width: u
     writeln!(
         out,
         "<text class=\"end\" x=\"1194\" y=\"110\">current</text></g>"
-    )
+    )?;
+    Ok(())
 }

@@ -7,7 +7,8 @@ use std::fmt;
 // The box of some columns, from the left edge to the right one and of a height.
 fn write_box(out: &mut String, left: Tenths, right: Tenths, top: u64, height: u64) -> fmt::Result {
     write!(out, "M{left} {top}H{right}")?;
-    write!(out, "v{height}H{left}z")
+    write!(out, "v{height}H{left}z")?;
+    Ok(())
 }
 
 // The columns of one shade, as boxes of one height.
@@ -25,7 +26,8 @@ fn write_shade(out: &mut String, band: &Band, shade: Shade, top: u64, height: u6
         }
         column = end;
     }
-    writeln!(out, "\"/>")
+    writeln!(out, "\"/>")?;
+    Ok(())
 }
 
 // A mark above each column in which a snapshot was adopted.
@@ -40,7 +42,8 @@ fn write_adoptions(out: &mut String, band: &Band, top: u64, tick: u64) -> fmt::R
             write!(out, "M{at} {top}l-{half} -{tick}h{tick}z")?;
         }
     }
-    writeln!(out, "\"/>")
+    writeln!(out, "\"/>")?;
+    Ok(())
 }
 
 // The band itself: stale columns empty, recovering ones hatched and of half the height, current ones full.
@@ -78,5 +81,6 @@ pub(crate) fn write_row(
     writeln!(
         out,
         "<text class=\"end\" x=\"1194\" y=\"{line}\">{share} %</text>"
-    )
+    )?;
+    Ok(())
 }

@@ -1,5 +1,5 @@
 -- Bytes at the front of a list that are let go of by moving the others to the front.
-use Rattle.std.proofs.Common.{◌≡◌, ℕ, ◌+◌, ◌-◌, ◌<◌, ◌≤◌, min, List, length, take, drop, arith, rules}
+use Rattle.std.proofs.Common.{◌≡◌, ℕ, ◌-◌, ◌≤◌, min, List, length, take, drop, arith, rules}
 use lib.Seq.{paste}
 use Rattle.std.proofs.lemmas.List.{same_lists, places}
 

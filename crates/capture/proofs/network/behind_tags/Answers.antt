@@ -1,4 +1,4 @@
-use Rattle.std.proofs.Common.{◌≡◌, length, drop, sym, refl, ap, ◌∙◌, arith, length-drop}
+use Rattle.std.proofs.Common.{length, sym, ap, ◌∙◌, arith, length-drop}
 use Rattle.capture.specs.Network.{untagged}
 use Rattle.capture.proofs.Tags.{untagged_tag, untagged-none, tag_long}
 use Rattle.capture.proofs.Parts.{rest-least}

@@ -1,4 +1,4 @@
-use Rattle.std.proofs.Common.{◌≡◌, ap, ◌∙◌}
+use Rattle.std.proofs.Common.{ap, ◌∙◌}
 use Rattle.capture.specs.Network.{link_held}
 use Rattle.capture.proofs.Sendings.{sent-over}
 use Rattle.capture.proofs.network.datagram.Goals as goal

@@ -1,4 +1,4 @@
-use Rattle.std.proofs.Common.{◌≡◌, sym, refl, ap, ◌∙◌}
+use Rattle.std.proofs.Common.{sym, ap, ◌∙◌}
 use Rattle.capture.specs.Network.{untagged, typed_held, link_held}
 use Rattle.capture.proofs.Parts.{rest-least}
 use Rattle.capture.proofs.network.linked.Goals as goal

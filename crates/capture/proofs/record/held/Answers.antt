@@ -1,4 +1,4 @@
-use Rattle.std.proofs.Common.{sym, refl, ap, ◌∙◌, arith}
+use Rattle.std.proofs.Common.{arith}
 use Rattle.capture.specs.Held.{view}
 use Rattle.capture.proofs.Fronts.{held_whole}
 use Rattle.capture.proofs.record.held.Goals as goal

@@ -1,4 +1,4 @@
-use Rattle.std.proofs.Common.{◌≡◌, ℕ, ◌-◌, ◌≤◌, List, length, take, vec_items, vec_len, refl, ap, ◌∙◌, arith, rules}
+use Rattle.std.proofs.Common.{ℕ, ◌-◌, ◌≤◌, List, length, take, vec_items, refl, ap, ◌∙◌, arith, rules}
 use Rattle.reading.proofs.Skips.{skipped}
 use Rattle.reading.proofs.reader.Reader.skip.Goals as goal
 
