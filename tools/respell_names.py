@@ -4,8 +4,8 @@
     python3 tools/respell_names.py        at the top of the repository
 
 A word is in snake case: a name such as packetCheck becomes packet_check, and messages-few becomes messages_few. A dash stays
-where it joins two names that are declared or of the library, as in le_at-drop. Names that the check makes (a function's goals, invariants and measures), the names of src/, strings
-and file names stay. A lemma that would fall together with another name gets _lem. Also renames the crate `hex`, since the
+where it joins two names that are declared or of the library, as in le_at-drop. Names that the check makes (a function's goals,
+invariants and measures, and what stands behind a dot in its answers), the names of src/, strings and file names stay. A lemma that would fall together with another name gets _lem. Also renames the crate `hex`, since the
 toolchain has a library of that name, to `hex_digits`. Prints each name that changed, and what to look at.
 """
 import collections
@@ -88,7 +88,9 @@ def main():
             for a in seen[p] & set(table):
                 if re.search(rf"\b{re.escape(table[a])}\b(?!\()", text):
                     print(f"look: {p} has {table[a]} beside {a}")
-        changed = TOKEN.sub(lambda m: table.get(m[0], m[0]), text)
+        kept = {a for a in table if names[a]} if p.suffix != ".antt" else set()
+        behind = r"(?<!\.)" if is_for_function(p) else ""
+        changed = re.sub(behind + TOKEN.pattern, lambda m: m[0] if m[0] in kept else table.get(m[0], m[0]), text)
         changed = re.sub(rf"\bRattle\.{old}\.", f"Rattle.{new}.", changed)
         if p.suffix == ".rt":
             changed = re.sub(rf"\buse {old}::", f"use {new}::", changed)

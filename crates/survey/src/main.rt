@@ -1,16 +1,20 @@
 #![tactic(auto)]
 
-mod drain;
+mod count;
+mod counts;
+mod destination;
+mod flows;
+mod reader;
 mod report;
 mod sums;
+mod table;
+mod window;
 
-use crate::drain::turn;
+use crate::reader::{Reader, Standing};
+use crate::table::Table;
 use anyhow::anyhow;
 use capture::fault::CaptureFault;
-use destinations::table::Table;
 use layout::sheet::Sheet;
-use reading::reader::Reader;
-use reading::standing::Standing;
 use sheet_text::filling::fill;
 use std::{env, fs};
 
@@ -52,12 +56,12 @@ fn scan(
     let mut told: u64 = PROGRESS;
     for _ in 0..u64::MAX {
         let last = reader.fill(&mut file)?;
-        match turn(&mut reader, table, rt.alloc(), sheet, last)? {
+        match reader.turn(table, rt.alloc(), sheet, last)? {
             Standing::More => {}
             Standing::End => return Ok(None),
             Standing::Broken(fault) => return Ok(Some(fault)),
         }
-        if reader.offset() >= told {
+        if reader.offset >= told {
             let read = told / 1048576;
             eprintln!(rt; "{read} MiB read")?;
             told = told.saturating_add(PROGRESS);

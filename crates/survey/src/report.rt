@@ -1,7 +1,7 @@
-use crate::sums::{Sums, all_messages, all_refused};
-use destinations::counts::Counts;
-use destinations::destination::{Destination, Flow};
-use destinations::table::Table;
+use crate::counts::Counts;
+use crate::destination::{Destination, Flow};
+use crate::sums::Sums;
+use crate::table::Table;
 use refusal::{Layer, Refusal};
 
 // A figure on a line of its own.
@@ -25,7 +25,7 @@ fn kind_name(kind: usize) -> &'static str {
 
 // The messages by kind, but for the kinds that did not come.
 fn write_kinds(out: &mut String, counts: &Counts) -> anyhow::Result<()> {
-    figure(out, "messages", all_messages(counts))?;
+    figure(out, "messages", counts.all_messages())?;
     for (kind, count) in counts.kinds.iter().enumerate() {
         if *count > 0 {
             figure(out, kind_name(kind), *count)?;
@@ -36,7 +36,7 @@ fn write_kinds(out: &mut String, counts: &Counts) -> anyhow::Result<()> {
 
 // The refused datagrams by reason, each with the first.
 fn write_reasons(out: &mut String, counts: &Counts) -> anyhow::Result<()> {
-    figure(out, "refused", all_refused(counts))?;
+    figure(out, "refused", counts.all_refused())?;
     for (reason, refused) in counts.reasons.iter().enumerate() {
         if refused.count > 0 {
             let number = (reason as u8).wrapping_add(1);
@@ -102,8 +102,8 @@ pub fn write_total(out: &mut String, table: &Table) -> anyhow::Result<()> {
     let mut sums = Sums::none();
     for d in table.destinations.as_slice() {
         packets = packets.saturating_add(d.packets);
-        messages = messages.saturating_add(all_messages(&d.counts));
-        refused = refused.saturating_add(all_refused(&d.counts));
+        messages = messages.saturating_add(d.counts.all_messages());
+        refused = refused.saturating_add(d.counts.all_refused());
         sums.add(d.flows.as_slice());
     }
     writeln!(out, "total")?;

@@ -1,5 +1,4 @@
-use destinations::counts::Counts;
-use destinations::destination::Flow;
+use crate::destination::Flow;
 
 // the figures of several flows together: the lowest and the highest number, and the sums
 #[derive(Clone, Copy)]
@@ -58,22 +57,4 @@ impl Sums {
             self.late = self.late.saturating_add(flow.stream.late());
         }
     }
-}
-
-// How many messages of all kinds came.
-pub fn all_messages(counts: &Counts) -> u64 {
-    let mut all: u64 = 0;
-    for count in counts.kinds.iter() {
-        all = all.saturating_add(*count);
-    }
-    all
-}
-
-// How many datagrams were refused.
-pub fn all_refused(counts: &Counts) -> u64 {
-    let mut all: u64 = 0;
-    for refused in counts.reasons.iter() {
-        all = all.saturating_add(refused.count);
-    }
-    all
 }

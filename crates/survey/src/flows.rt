@@ -1,0 +1,96 @@
+ghost use Rattle.std.specs.Prelude.{◌≡◌, ℕ, ◌<◌, ◌≤◌, true, false, length, OnOk, slice_index_or};
+ghost use Rattle.packet.specs.Rules.{packet_check, messages};
+ghost use Rattle.survey.specs.Noting.{is_flow, packets_after, kinds_after, reasons_after};
+
+use crate::counts::Counts;
+use crate::destination::{Destination, Flow};
+use layout::sheet::Sheet;
+use numbering::stream::Stream;
+use packet::checked::Checked;
+use packet::head::PacketHead;
+use packet::rules::check;
+use std::alloc::{AllocError, Global};
+
+fn is_flow(flow: &Flow, channel: u8, version: u16) -> bool
+    ensures { result ≡ is_flow flow.now channel version }
+{
+    flow.channel == channel && flow.version == version
+}
+
+// The place of the flow of a channel and version, or the number of flows where there is none.
+fn find_flow(flows: &[Flow], last: usize, channel: u8, version: u16) -> usize
+    ensures within { result ≤ length flows.now }
+    ensures found { (d : Flow) → result < length flows.now → is_flow (slice_index_or flows.now result d) channel version ≡ true }
+    ensures absent { (k : ℕ) (d : Flow) → result ≡ length flows.now → k < length flows.now → is_flow (slice_index_or flows.now k d) channel version ≡ false }
+{
+    if last < flows.len() && is_flow(&flows[last], channel, version) {
+        return last;
+    }
+    let mut i = flows.len();
+    while i > 0 {
+        i -= 1;
+        if is_flow(&flows[i], channel, version) {
+            return i;
+        }
+    }
+    flows.len()
+}
+
+impl Destination {
+    // An address and port where nothing came yet.
+    pub fn new(heap: Global, address: u32, port: u16) -> Destination {
+        Destination {
+            address,
+            port,
+            packets: 0,
+            flows: Vec::new(heap),
+            last: 0,
+            counts: Counts::none(),
+        }
+    }
+
+    // Notes a packet's number under its channel and version.
+    fn number(&mut self, heap: Global, head: PacketHead) -> Result<(), AllocError>
+        ensures { (self.new.packets ≡ self.old.packets) × (self.new.counts ≡ self.old.counts) }
+    {
+        let PacketHead {
+            channel,
+            version,
+            number,
+        } = head;
+        let place = find_flow(self.flows.as_slice(), self.last, channel, version);
+        if place == self.flows.len() {
+            self.flows.push(Flow {
+                channel,
+                version,
+                stream: Stream::new(heap),
+            })?;
+        }
+        self.last = place;
+        self.flows[place].stream.note(number)
+    }
+
+    // Notes a datagram's payload, from the record with that index.
+    pub fn note(
+        &mut self,
+        heap: Global,
+        sheet: &Sheet,
+        payload: &[u8],
+        index: u64,
+    ) -> Result<(), AllocError>
+        ensures packets { OnOk result (self.new.packets ≡ packets_after (packet_check sheet.now payload.now) self.old.packets) }
+        ensures kinds { OnOk result (self.new.counts.kinds ≡ kinds_after (packet_check sheet.now payload.now) self.old.counts.kinds (messages sheet.now payload.now)) }
+        ensures reasons { OnOk result (self.new.counts.reasons ≡ reasons_after (packet_check sheet.now payload.now) self.old.counts.reasons index) }
+    {
+        match check(sheet, payload) {
+            Err(fault) => self.counts.refuse(fault, index),
+            Ok(()) => {
+                let packet = Checked::new(sheet, payload);
+                self.number(heap, packet.head())?;
+                self.packets = self.packets.saturating_add(1);
+                self.counts.messages(packet.walk());
+            }
+        }
+        Ok(())
+    }
+}

@@ -1,0 +1,92 @@
+ghost use Rattle.std.specs.Prelude.{◌≡◌, ℕ, ◌<◌, ◌≤◌, true, false, length, slice_index_or};
+ghost use Rattle.survey.specs.Noting.{is_destination};
+ghost use Rattle.capture.specs.Held.{view};
+ghost use Rattle.capture.specs.Tally.{nothing, noted};
+
+use crate::destination::Destination;
+use capture::frame::{Datagram, Frame};
+use capture::tally::Tally;
+use layout::sheet::Sheet;
+use std::alloc::{AllocError, Global};
+
+// the survey of a capture: its destinations, in the order of their first datagram, and how many records of each sort
+#[derive(Drop)]
+pub struct Table {
+    pub destinations: Vec<Destination>,
+    pub last: usize,
+    pub records: u64,
+    pub tally: Tally,
+}
+
+fn is_destination(destination: &Destination, address: u32, port: u16) -> bool
+    ensures { result ≡ is_destination destination.now address port }
+{
+    destination.address == address && destination.port == port
+}
+
+// The place of an address and port, or the number of destinations where there is none.
+fn find_destination(destinations: &[Destination], last: usize, address: u32, port: u16) -> usize
+    ensures within { result ≤ length destinations.now }
+    ensures found { (d : Destination) → result < length destinations.now → is_destination (slice_index_or destinations.now result d) address port ≡ true }
+    ensures absent { (k : ℕ) (d : Destination) → result ≡ length destinations.now → k < length destinations.now → is_destination (slice_index_or destinations.now k d) address port ≡ false }
+{
+    if last < destinations.len() && is_destination(&destinations[last], address, port) {
+        return last;
+    }
+    let mut i = destinations.len();
+    while i > 0 {
+        i -= 1;
+        if is_destination(&destinations[i], address, port) {
+            return i;
+        }
+    }
+    destinations.len()
+}
+
+impl Table {
+    // Nothing read yet.
+    pub fn new(heap: Global) -> Table
+        ensures { result.tally ≡ nothing }
+    {
+        Table {
+            destinations: Vec::new(heap),
+            last: 0,
+            records: 0,
+            tally: Tally::new(),
+        }
+    }
+
+    // Notes a datagram under its destination.
+    fn datagram(
+        &mut self,
+        heap: Global,
+        sheet: &Sheet,
+        datagram: &Datagram,
+    ) -> Result<(), AllocError>
+        ensures { self.new.tally ≡ self.old.tally }
+    {
+        let address = datagram.address;
+        let port = datagram.port;
+        let place = find_destination(self.destinations.as_slice(), self.last, address, port);
+        if place == self.destinations.len() {
+            self.destinations
+                .push(Destination::new(heap, address, port))?;
+        }
+        self.last = place;
+        self.destinations[place].note(heap, sheet, datagram.payload, self.records)
+    }
+
+    // Notes what a record holds.
+    pub fn note(&mut self, heap: Global, sheet: &Sheet, frame: &Frame) -> Result<(), AllocError>
+        ensures { self.new.tally ≡ noted self.old.tally (view frame.now) }
+    {
+        self.records = self.records.saturating_add(1);
+        self.tally.note(frame);
+        match frame {
+            Frame::Datagram(datagram) => self.datagram(heap, sheet, datagram),
+            Frame::Cut => Ok(()),
+            Frame::Fragment => Ok(()),
+            Frame::NoUdp => Ok(()),
+        }
+    }
+}
