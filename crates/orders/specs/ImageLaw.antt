@@ -15,10 +15,10 @@ use Rattle.orders.specs.Staged.{due_of, concerns_book, takes_part, put_part, les
 use Rattle.orders.specs.Kind.{Setup, orders}
 use Rattle.orders.specs.Image.{entered, numbered, Sided, BookImage}
 
-none-numbered : (p : ℕ) (xs : List Order) → [] ≡ numbered p xs → xs ≡ []
+none_numbered : (p : ℕ) (xs : List Order) → [] ≡ numbered p xs → xs ≡ []
 unfolding numbered
-none-numbered p [] e = refl
-none-numbered p (x ∷ xs) e = let z : ◌≡◌ {A = ℕ} 0 1 = cc in absurd (omega arith)
+none_numbered p [] e = refl
+none_numbered p (x ∷ xs) e = let z : ◌≡◌ {A = ℕ} 0 1 = cc in absurd (omega arith)
 
 -- what stands first in a numbered list
 record First (p : ℕ) (xs : List Order) (q : ℕ) (x : Order) (rest : List (ℕ × Order)) : Type 0 where
@@ -81,7 +81,7 @@ module _ (o : Setup) where
 
   fills : (ps : List Part) → Sided ps → Adds ps
   unfolding entered Sided Adds one
-  fills [] s = λ xs ys bids offers eb eo. rw (none-numbered _ bids eb, none-numbered _ offers eo, append-nil xs, append-nil ys) (refl, refl)
+  fills [] s = λ xs ys bids offers eb eo. rw (none_numbered _ bids eb, none_numbered _ offers eo, append-nil xs, append-nil ys) (refl, refl)
   fills (number f ∷ ps) s = λ xs ys bids offers eb eo. (done xs ys bids offers, refl, fills ps s xs ys bids offers eb eo)
   fills (torn ∷ ps) s = absurd s
   fills (entry e ∷ ps) s = let rest = fills ps s.1 in elim s.0 [
