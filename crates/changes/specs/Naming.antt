@@ -1,5 +1,5 @@
 -- Which watched instruments the messages of a packet name.
-use Rattle.std.specs.Prelude.{ℕ, max, cond, List, [], ◌∷◌, length, Some, None, Option, slice_index, slice_set}
+use Rattle.std.specs.Prelude.{ℕ, max, List, [], ◌∷◌, Some, None, Option, slice_index, slice_set}
 use Rattle.message.specs.declared.values.OrderFields.{OrderFields}
 use Rattle.message.specs.declared.values.HeaderFields.{HeaderFields}
 use Rattle.layout.specs.declared.kinds.Layout.{Layout}

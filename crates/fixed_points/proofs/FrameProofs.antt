@@ -1,12 +1,9 @@
 -- The worked values of the frame layer, computed.
-use Rattle.std.proofs.Common.{◌≡◌, ℕ, ◌+◌, List, [], ◌∷◌, length, take, drop, Ok, Err, vec_items, sym, refl, ap, ◌∙◌, arith}
+use Rattle.std.proofs.Common.{◌≡◌, ℕ, List, [], ◌∷◌, length, take, drop, Ok, vec_items, sym, refl, ap, ◌∙◌, arith}
 use Rattle.layout.specs.declared.sheet.Sheet.{Sheet}
-use Rattle.layout.specs.declared.template.Template.{Template}
 use Rattle.layout.specs.Lawful.{find}
 use Rattle.layout.specs.Wire.{le_at}
-use Rattle.message.specs.Meaning.{Msg}
-use Rattle.packet.specs.declared.fault.FrameFault.TheVariants.{Size, Empty}
-use Rattle.packet.specs.Rules.{and_then, head_check, layout_check, size_check, message_check, walk_check, packet_check, messages_from, messages, msg_at}
+use Rattle.packet.specs.Rules.{and_then, head_check, layout_check, size_check, message_check, walk_check, packet_check, messages, msg_at}
 use Rattle.packet.proofs.Walks.{walk_step, walk_end}
 use Rattle.packet.proofs.Handed.{messages_next, messages-end}
 use Rattle.fixed_points.specs.Sample.{sample}

@@ -1,7 +1,6 @@
 -- Worked values of the frame layer.
-use Rattle.std.specs.Prelude.{◌≡◌, ℕ, ◌+◌, List, [], ◌∷◌, map, length, take, Ok, Err, vec_items}
+use Rattle.std.specs.Prelude.{◌≡◌, ℕ, ◌+◌, List, [], ◌∷◌, length, take, Ok, Err, vec_items}
 use Rattle.layout.specs.declared.sheet.Sheet.{Sheet}
-use Rattle.packet.specs.declared.fault.FrameFault.{FrameFault}
 use Rattle.packet.specs.declared.fault.FrameFault.TheVariants.{Size, Empty}
 use Rattle.message.specs.Meaning.{Msg}
 use Rattle.packet.specs.Rules.{packet_head, packet_check, messages}

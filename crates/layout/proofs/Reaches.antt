@@ -1,12 +1,11 @@
 -- A lawful layout reaches no further than the longest block.
-use Rattle.std.proofs.Common.{◌≡◌, ℕ, ◌≤◌, max, Bool, true, false, ◌&&◌, leb, arith}
+use Rattle.std.proofs.Common.{◌≡◌, ℕ, ◌≤◌, max, Bool, true, ◌&&◌, leb, arith}
 use Rattle.std.proofs.lemmas.Bool.{and_parts, and_from, leb-true}
-use Rattle.layout.specs.declared.kinds.Spot.{Spot}
 use Rattle.layout.specs.declared.kinds.Layout.{Layout}
 use Rattle.layout.specs.declared.kinds.Layout.TheVariants.{Order, Delete, Mass, Empty, Stat, Header, Entries}
 use Rattle.layout.specs.Lawful.{lawful_layout, up_to, just}
 use Rattle.layout.specs.Wire.{bytes_of}
-use Rattle.layout.specs.Reach.{reach, root_reach, entry_reach}
+use Rattle.layout.specs.Reach.{root_reach, entry_reach}
 
 within : (b : Bool) (n : ℕ) → (b && leb n 1372) ≡ true → n ≤ 1372
 within b n h = leb-true n 1372 (and_parts b _ h).1

@@ -1,6 +1,5 @@
 -- Which sheets there can be.
-use Rattle.std.specs.Prelude.{ℕ, ◌+◌, Bool, true, false, cond, not, ◌&&◌, ◌||◌, List, [], ◌∷◌, length, Some, None, Option, ◌==◌, nat_le}
-use Rattle.layout.specs.declared.width.Width.{Width}
+use Rattle.std.specs.Prelude.{ℕ, ◌+◌, Bool, true, false, cond, not, ◌&&◌, List, [], ◌∷◌, length, Some, None, Option, ◌==◌, nat_le}
 use Rattle.layout.specs.declared.kinds.Actions.{Actions}
 use Rattle.layout.specs.declared.kinds.Spot.{Spot}
 use Rattle.layout.specs.declared.kinds.Layout.{Layout}

@@ -1,5 +1,5 @@
 -- What a message and a piece of a snapshot say, field by field.
-use Rattle.std.specs.Prelude.{ℕ, zero, suc, ◌+◌, Bool, true, false, cond, List, [], ◌∷◌, length, take, drop, ℤ, pos, Some, None, Option, ◌==◌, nat_lt}
+use Rattle.std.specs.Prelude.{ℕ, zero, suc, ◌+◌, cond, List, [], ◌∷◌, length, take, drop, ℤ, pos, Some, None, Option, ◌==◌, nat_lt}
 use Rattle.std.specs.Int.{w64}
 use Rattle.std.proofs.Common.{to_z}
 use Rattle.layout.specs.declared.kinds.Spot.{Spot}

@@ -1,11 +1,11 @@
 -- The messages of a packet that keeps the rules fill it behind its header.
-use Rattle.std.proofs.Common.{◌≡◌, ℕ, zero, suc, ◌+◌, ◌-◌, ◌<◌, ◌≤◌, true, List, [], ◌∷◌, ◌++◌, length, take, drop, is_ok, IfOk, Ok, Err, Result, sym, refl, ap, ◌∙◌, subst, sub-one, arith}
+use Rattle.std.proofs.Common.{◌≡◌, ℕ, zero, suc, ◌+◌, ◌-◌, ◌<◌, true, List, [], ◌∷◌, ◌++◌, take, drop, is_ok, IfOk, Ok, Err, Result, sym, refl, ap, ◌∙◌, subst, sub-one, arith}
 use Rattle.std.proofs.lemmas.List.{take-append-drop}
 use Rattle.std.proofs.lemmas.Bool.{true≢false}
 use Rattle.layout.specs.Wire.{le_at}
 use Rattle.layout.specs.declared.sheet.Sheet.{Sheet}
 use Rattle.packet.specs.declared.fault.FrameFault.{FrameFault}
-use Rattle.packet.specs.Rules.{and_then, message_check, walk_check, packet_check, messages_from, messages, msg_at, joined}
+use Rattle.packet.specs.Rules.{and_then, message_check, walk_check, packet_check, messages_from, messages, joined}
 use Rattle.packet.proofs.Steps.{message_ok, packet_ok}
 
 then_is_ok : {A B E : Type 0} (r : Result A E) (f : A → Result B E) → is_ok (and_then r f) ≡ true → (x : A) × (Ok x ≡ r) × (is_ok (f x) ≡ true)

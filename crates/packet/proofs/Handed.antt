@@ -1,5 +1,5 @@
 -- The messages that a walk hands out, one by one.
-use Rattle.std.proofs.Common.{◌≡◌, ℕ, zero, suc, ◌+◌, ◌-◌, ◌<◌, ◌≤◌, true, List, [], ◌∷◌, length, take, drop, is_ok, Some, None, vec_items, Option, sym, refl, ap, ◌∙◌, ⊎_elim, sub-one, arith, MatchOption}
+use Rattle.std.proofs.Common.{◌≡◌, ℕ, zero, suc, ◌-◌, ◌<◌, ◌≤◌, true, List, [], ◌∷◌, length, take, drop, is_ok, Some, None, vec_items, Option, sym, refl, ap, ◌∙◌, ⊎_elim, sub-one, arith, MatchOption}
 use Rattle.std.proofs.lemmas.Bool.{cases_lt}
 use Rattle.layout.specs.Wire.{le_at}
 use Rattle.layout.specs.Lawful.{find}

@@ -1,13 +1,13 @@
 -- What bytes that keep the rules have at their front.
-use Rattle.std.proofs.Common.{◌≡◌, ℕ, zero, suc, ◌+◌, ◌-◌, ◌<◌, ◌≤◌, Bool, true, false, cond, ◌||◌, List, [], ◌∷◌, length, take, drop, is_ok, Ok, Err, vec_items, Result, sym, refl, ap, ◌∙◌, subst, ⊎_elim, sub-one, arith}
-use Rattle.std.proofs.lemmas.Bool.{cases_lt, true≢false}
+use Rattle.std.proofs.Common.{◌≡◌, ℕ, ◌+◌, ◌<◌, ◌≤◌, true, List, length, take, drop, is_ok, Ok, Err, vec_items, Result, sym, refl, ap, ◌∙◌, subst, arith}
+use Rattle.std.proofs.lemmas.Bool.{true≢false}
 use Rattle.std.proofs.lemmas.Bool.Decides.{nat_tests}
 use Rattle.layout.specs.Wire.{le_at}
 use Rattle.layout.specs.Lawful.{find}
 use Rattle.layout.specs.declared.sheet.Sheet.{Sheet}
 use Rattle.packet.specs.declared.fault.FrameFault.{FrameFault}
 use Rattle.packet.specs.declared.head.MessageHead.{MessageHead}
-use Rattle.packet.specs.Rules.{and_then, message_head, head_check, layout_check, message_check, walk_check, packet_check, messages_from, msg_at}
+use Rattle.packet.specs.Rules.{and_then, message_head, head_check, layout_check, message_check, walk_check, packet_check}
 use Rattle.packet.proofs.Walks.{walk_step, walk_stop}
 
 pub ok_unit : {E : Type 0} (r : Result (Unit {0}) E) → is_ok r ≡ true → r ≡ Ok tt

@@ -1,5 +1,5 @@
 -- The rules of a packet: which bytes are refused, and where.
-use Rattle.std.specs.Prelude.{ℕ, zero, suc, ◌+◌, ◌-◌, ◌*◌, Bool, true, false, cond, not, ◌||◌, List, [], ◌∷◌, ◌++◌, length, take, drop, Some, None, Ok, Err, vec_items, Option, Result, ◌==◌, nat_lt, slice_index}
+use Rattle.std.specs.Prelude.{ℕ, zero, suc, ◌+◌, ◌-◌, ◌*◌, Bool, cond, not, ◌||◌, List, [], ◌∷◌, ◌++◌, length, take, drop, Some, None, Ok, Err, vec_items, Option, Result, ◌==◌, nat_lt, slice_index}
 use Rattle.layout.specs.Wire.{le_at, bytes_of}
 use Rattle.layout.specs.Reach.{root_reach, group_reach}
 use Rattle.layout.specs.Lawful.{find}

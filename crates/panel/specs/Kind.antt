@@ -1,6 +1,5 @@
 -- The kind of store that keeps a panel of the latest numbers of the templates ts.
 use Rattle.std.specs.Prelude.{ℕ, ◌-◌, Bool, true, false, List, length, ◌==◌, nat_le, nat_lt}
-use Rattle.message.specs.declared.values.HeaderFields.{HeaderFields}
 use Rattle.message.specs.Meaning.{Body, put, delete, mass, empty, stat, aside, broken, Part, entry, number, torn}
 use Rattle.store.specs.Kind.{Kind}
 use Rattle.panel.specs.Numbers.{Panel, no_numbers, noted}

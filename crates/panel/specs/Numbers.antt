@@ -1,5 +1,5 @@
 -- A panel: for each template of a list, its latest number or none.
-use Rattle.std.specs.Prelude.{ℕ, ◌+◌, Bool, false, cond, ◌||◌, List, [], ◌∷◌, length, replicate, ℤ, Some, None, Option, ◌==◌}
+use Rattle.std.specs.Prelude.{ℕ, Bool, false, cond, ◌||◌, List, [], ◌∷◌, length, replicate, ℤ, Some, None, Option, ◌==◌}
 
 -- the numbers stand in the order of their templates
 abbrev pub Panel : Type 0

@@ -1,14 +1,13 @@
 -- What an accepted call tells of its packet.
-use Rattle.std.proofs.Common.{◌≡◌, ℕ, ◌+◌, ◌<◌, ◌≤◌, Bool, true, false, cond, not, ◌&&◌, ◌||◌, eqb, ltb, leb, List, length, is_ok, Ok, Err, Result, sym, refl, ap, ◌∙◌, arith}
+use Rattle.std.proofs.Common.{◌≡◌, ℕ, ◌+◌, ◌<◌, ◌≤◌, Bool, true, false, cond, not, ◌||◌, eqb, ltb, leb, List, length, is_ok, Ok, Err, Result, sym, refl, ap, ◌∙◌, arith}
 use Rattle.std.proofs.lemmas.Bool.{ltb-false, leb-false, eqb-false, or_parts}
 use Rattle.layout.specs.declared.sheet.Sheet.{Sheet}
 use Rattle.packet.specs.declared.fault.FrameFault.{FrameFault}
-use Rattle.packet.specs.declared.head.PacketHead.{PacketHead}
-use Rattle.packet.specs.Rules.{and_then, packet_check, packet_head, size_check}
+use Rattle.packet.specs.Rules.{and_then, packet_check, packet_head}
 use Rattle.recovery.specs.declared.answers.Incremental.{Incremental}
 use Rattle.recovery.specs.declared.answers.Incremental.TheVariants.{Repeat, Taken}
 use Rattle.recovery.specs.declared.fault.StreamFault.{StreamFault}
-use Rattle.recovery.specs.Shelf.{shelved, is_there, reading, part_of, shelf_of, intact, spoilt}
+use Rattle.recovery.specs.Shelf.{shelved, is_there, part_of, shelf_of}
 use Rattle.recovery.specs.State.{Opening, Plain}
 use Rattle.recovery.specs.Answers.{refuses, shelf_check, framed, bytes_check, incremental_rules, incremental_answer}
 use Rattle.recovery.specs.Updates.{when_taken}

@@ -1,5 +1,5 @@
 -- A whole snapshot that becomes the book at a slot.
-use Rattle.std.proofs.Common.{◌≡◌, ℕ, ◌+◌, ◌<◌, ◌≤◌, max, Bool, true, false, cond, not, ◌&&◌, eqb, ltb, leb, List, length, get_or, set, Ok, Err, Result, sym, refl, ap, ◌∙◌, subst, arith}
+use Rattle.std.proofs.Common.{◌≡◌, ℕ, ◌<◌, max, Bool, true, false, cond, not, ◌&&◌, eqb, ltb, List, length, get_or, set, Ok, Err, Result, sym, refl, ap, ◌∙◌, subst, arith}
 use Rattle.std.proofs.lemmas.Bool.{ltb-true}
 use Rattle.std.proofs.lemmas.Bool.Decides.{nat_tests}
 use Rattle.layout.specs.declared.sheet.Sheet.{Sheet}
@@ -10,9 +10,9 @@ use Rattle.store.specs.Calls.{has_slot, is_whole, value_at, with_slot, adopt_ans
 use Rattle.recovery.specs.declared.marks.Mark.{Mark}
 use Rattle.recovery.specs.declared.marks.Mark.TheVariants.{Stale, AsOf}
 use Rattle.recovery.specs.declared.marks.Group.{Group}
-use Rattle.recovery.specs.Shelf.{Found, shelf_of, kept}
-use Rattle.recovery.specs.Books.{Book, book}
-use Rattle.recovery.specs.State.{slot_in, slot_of, rest_of, State}
+use Rattle.recovery.specs.Shelf.{shelf_of, kept}
+use Rattle.recovery.specs.Books.{book}
+use Rattle.recovery.specs.State.{slot_in, slot_of, rest_of}
 use Rattle.recovery.specs.Incremental.{settled}
 use Rattle.recovery.specs.Updates.{hearing, with_plain, with_book}
 use Rattle.recovery.specs.Groups.{idle, wanted, adopted}

@@ -1,5 +1,5 @@
 -- One packet more on the shelf, and old numbers dropped.
-use Rattle.std.proofs.Common.{◌≡◌, ℕ, ◌+◌, ◌-◌, ◌*◌, ◌%◌, ◌<◌, ◌≤◌, max, Bool, true, false, cond, ◌&&◌, eqb, ltb, leb, List, ◌++◌, length, get_or, take, drop, set, sym, refl, ap, ◌∙◌, subst, ap₂, ⊎_elim, arith}
+use Rattle.std.proofs.Common.{◌≡◌, ℕ, ◌+◌, ◌-◌, ◌*◌, ◌%◌, ◌<◌, ◌≤◌, max, Bool, true, false, cond, leb, List, length, get_or, take, drop, set, sym, refl, ap, ◌∙◌, subst, ap₂, ⊎_elim, arith}
 use borrow.Rule.Slice.PartMut.{put_mid}
 use Rattle.std.proofs.lemmas.List.{get_or-set_same, get_or-set_other}
 use Rattle.std.proofs.lemmas.Slice.{between-put_mid, between_is, take-put_mid_below, drop-put_mid}
@@ -8,7 +8,7 @@ use Rattle.std.proofs.lemmas.Bool.Decides.{nat_tests}
 use Rattle.layout.specs.declared.sheet.Sheet.{Sheet}
 use Rattle.store.specs.Kind.{Kind, Model}
 use Rattle.packet.specs.Rules.{packet_head}
-use Rattle.recovery.specs.Shelf.{Found, absent, shelved, part_of, reading, shelf_of, kept, laid, written}
+use Rattle.recovery.specs.Shelf.{Found, absent, shelved, part_of, reading, shelf_of, laid, written}
 use Rattle.recovery.specs.State.{State}
 use Rattle.recovery.specs.Incremental.{settled, received}
 use Rattle.recovery.specs.Updates.{hearing, with_plain}

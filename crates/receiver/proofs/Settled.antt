@@ -1,10 +1,10 @@
 -- Books that settle, as one step of the state.
-use Rattle.std.proofs.Common.{◌≡◌, ℕ, ◌<◌, ◌≤◌, cond, ltb, List, length, get_or, sym, refl, ◌∙◌, ap₂, ⊎_elim}
+use Rattle.std.proofs.Common.{◌≡◌, ℕ, ◌<◌, ◌≤◌, cond, ltb, List, length, get_or, sym, ap₂, ⊎_elim}
 use Rattle.std.proofs.lemmas.Bool.{lt-ltb, le-ltb, cases_lt}
 use Rattle.store.specs.Kind.{Kind, Model}
 use Rattle.recovery.specs.declared.marks.Mark.{Mark}
-use Rattle.recovery.specs.Books.{Book, settle, kind_at}
-use Rattle.recovery.specs.State.{Opening, Plain, books_of, rest_of, state_of}
+use Rattle.recovery.specs.Books.{settle}
+use Rattle.recovery.specs.State.{Opening, Plain, state_of}
 use Rattle.recovery.specs.Incremental.{settled}
 use Rattle.settling.specs.Each.{Each, book_at, kind_in}
 

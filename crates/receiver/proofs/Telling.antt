@@ -1,5 +1,5 @@
 -- The events and messages of a snapshot packet, one by one.
-use Rattle.std.proofs.Common.{◌≡◌, ℕ, zero, suc, ◌+◌, ◌-◌, ◌<◌, ◌≤◌, Bool, true, false, cond, List, [], ◌∷◌, ◌++◌, length, sym, refl, ap, ◌∙◌, subst, arith}
+use Rattle.std.proofs.Common.{◌≡◌, ℕ, zero, suc, ◌+◌, ◌-◌, ◌≤◌, Bool, true, false, List, [], ◌∷◌, length, sym, refl, ap, ◌∙◌, arith}
 use Rattle.std.proofs.lemmas.List.{length-append}
 use Rattle.layout.specs.declared.kinds.EntriesLayout.{EntriesLayout}
 use Rattle.layout.specs.declared.sheet.Sheet.{Sheet}
@@ -7,9 +7,7 @@ use Rattle.layout.specs.Wire.{le_at}
 use Rattle.message.specs.Meaning.{Msg, Part, entry, or_torn, entry_fields}
 use Rattle.packet.specs.Rules.{messages_from}
 use Rattle.store.specs.Kind.{Kind}
-use Rattle.recovery.specs.declared.marks.Group.{Group}
-use Rattle.recovery.specs.declared.marks.Pending.{Pending}
-use Rattle.recovery.specs.declared.marks.Pending.TheVariants.{Closed, Open}
+use Rattle.recovery.specs.declared.marks.Pending.TheVariants.{Closed}
 use Rattle.recovery.specs.Reading.{Event, adds, entries_for, told}
 use Rattle.recovery.specs.State.{Opening, State}
 use Rattle.recovery.specs.Updates.{on_pending}

@@ -1,5 +1,5 @@
 -- What a join, a leave and a question answer, and what they leave of the plain part.
-use Rattle.std.specs.Prelude.{ℕ, true, false, List, [], Ok, Err, Result, slice_index_or}
+use Rattle.std.specs.Prelude.{ℕ, true, false, Ok, Err, Result, slice_index_or}
 use Rattle.packet.specs.Rules.{and_then}
 use Rattle.recovery.specs.declared.answers.Standing.{Standing}
 use Rattle.recovery.specs.declared.fault.StreamFault.{StreamFault}
@@ -8,12 +8,11 @@ use Rattle.recovery.specs.declared.marks.Mark.TheVariants.{Stale}
 use Rattle.recovery.specs.declared.marks.Pending.TheVariants.{Closed}
 use Rattle.recovery.specs.State.{slot_of, Plain as PlainState}
 use Rattle.recovery.specs.Answers.{join_check, present_join, question_check, standing}
-use Rattle.recovery.specs.Updates.{when_ok}
 use Rattle.receiver.specs.declared.subscription.Subscription.{Subscription}
 use Rattle.receiver.specs.declared.plain.Plain.{Plain}
 use Rattle.receiver.specs.declared.join.Join.{Join}
 use Rattle.receiver.specs.declared.join.Left.{Left}
-use Rattle.receiver.specs.Standings.{opening_of, plain_of}
+use Rattle.receiver.specs.Standings.{opening_of}
 
 -- a join carries the receiver's number
 abbrev pub join_answer : Subscription → PlainState → Result Join StreamFault

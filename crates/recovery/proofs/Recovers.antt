@@ -12,7 +12,6 @@ use Rattle.recovery.specs.declared.fault.StreamFault.TheVariants.{WatchList, Own
 use Rattle.recovery.specs.declared.marks.Mark.{Mark}
 use Rattle.recovery.specs.declared.marks.Mark.TheVariants.{Stale, AsOf}
 use Rattle.recovery.specs.Shelf.{is_there}
-use Rattle.recovery.specs.Books.{book}
 use Rattle.recovery.specs.State.{Opening, slot_of, watched, distinct, State, opened}
 use Rattle.recovery.specs.Answers.{refuses, lawful_version, opening_check, standing}
 use Rattle.recovery.specs.Log.{Adoption}

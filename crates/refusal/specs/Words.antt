@@ -1,5 +1,5 @@
 -- The words of the refusals and of the layers.
-use Rattle.std.specs.Prelude.{ℕ, cond, List, [], ◌∷◌, codes, ◌==◌}
+use Rattle.std.specs.Prelude.{ℕ, cond, List, codes, ◌==◌}
 use Rattle.refusal.specs.declared.Layer.{Layer}
 use Rattle.refusal.specs.declared.Layer.TheVariants.{Frame, Stream, Store, Sheet}
 

@@ -2,7 +2,7 @@
 use Rattle.std.proofs.Common.{◌≡◌, ℕ, true, List, [], ◌∷◌, ◌++◌, is_err, Ok, Err, Result, sym, refl, ap, ◌∙◌, subst, true≢false, append_assoc, append-nil}
 use Rattle.message.specs.declared.values.HeaderFields.{HeaderFields}
 use Rattle.message.specs.Meaning.{Part}
-use Rattle.store.specs.Kind.{Kind, Model}
+use Rattle.store.specs.Kind.{Kind}
 use Rattle.recovery.specs.State.{Opening, State}
 use Rattle.recovery.specs.Calls.{Call, step, run, after}
 use Rattle.recovery.specs.Present.{Guaranteed}

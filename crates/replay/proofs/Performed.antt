@@ -1,5 +1,5 @@
 -- A call at the desk, by the call of the machine that it stands for.
-use Rattle.std.proofs.Common.{◌≡◌, ℕ, Bool, true, eqb, List, Some, None, Option, sym, refl, subst, eqb-true}
+use Rattle.std.proofs.Common.{◌≡◌, ℕ, Bool, true, eqb, List, Some, Option, sym, subst, eqb-true}
 use Rattle.std.proofs.lemmas.Bool.{and_parts}
 use Rattle.store.specs.Kind.{Kind}
 use Rattle.recovery.specs.State.{Opening, State}

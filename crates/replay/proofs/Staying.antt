@@ -1,8 +1,7 @@
 -- A packet leaves it as it was whether the receiver is joined.
-use Rattle.std.proofs.Common.{◌≡◌, ℕ, Bool, true, false, cond, ◌&&◌, eqb, List, [], ◌∷◌, Ok, Err, Result, sym, refl, ap, ◌∙◌}
+use Rattle.std.proofs.Common.{◌≡◌, ℕ, Bool, true, false, cond, ◌&&◌, eqb, List, [], ◌∷◌, Ok, Err, Result, refl, ◌∙◌}
 use Rattle.message.specs.Meaning.{Msg, Part}
 use Rattle.packet.specs.Rules.{messages, packet_head}
-use Rattle.message.specs.declared.values.HeaderFields.{HeaderFields}
 use Rattle.store.specs.Kind.{Kind}
 use Rattle.recovery.specs.declared.answers.Incremental.{Incremental}
 use Rattle.recovery.specs.declared.answers.Incremental.TheVariants.{Repeat, Taken}

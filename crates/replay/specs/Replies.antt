@@ -1,5 +1,5 @@
 -- What the desk answers to a call.
-use Rattle.std.specs.Prelude.{ℕ, Ok, Err, Result}
+use Rattle.std.specs.Prelude.{Ok, Err, Result}
 use Rattle.store.specs.Kind.{Kind}
 use Rattle.recovery.specs.declared.answers.Incremental.{Incremental}
 use Rattle.recovery.specs.declared.answers.Incremental.TheVariants as incrementals

@@ -9,8 +9,8 @@ use Rattle.recovery.specs.Shelf.{Found, absent, spoilt, intact, upon}
 use Rattle.recovery.specs.Reading.{is_of, is_change, changes}
 use Rattle.recovery.specs.Books.{Book, book, fit_all, after_all, lost, climb, aged, settle}
 use Rattle.settling.specs.declared.marks.Event.TheVariants.{Taken, Spoilt, Aged}
-use Rattle.settling.specs.Marks.{stands, comes, falls}
-use Rattle.settling.specs.Passes.{noted, heeded, feed, feeds, pass}
+use Rattle.settling.specs.Marks.{stands, falls}
+use Rattle.settling.specs.Passes.{noted, feed, feeds, pass}
 use Rattle.settling.specs.Each.{Low}
 use Rattle.settling.proofs.Finding.{by_test}
 

@@ -1,5 +1,5 @@
 -- A packet's messages, one by one.
-use Rattle.std.proofs.Common.{◌≡◌, ℕ, List, [], ◌∷◌, sym, refl, ap, ◌∙◌}
+use Rattle.std.proofs.Common.{◌≡◌, ℕ, List, [], ◌∷◌}
 use Rattle.message.specs.Meaning.{Msg}
 use Rattle.store.specs.Kind.{Kind}
 use Rattle.recovery.specs.Books.{Book}

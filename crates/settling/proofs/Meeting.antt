@@ -1,12 +1,11 @@
 -- Steps joined, instrument by instrument.
-use Rattle.std.proofs.Common.{◌≡◌, ℕ, ◌<◌, ◌≤◌, Bool, true, false, cond, eqb, ltb, List, length, get_or, Some, None, Option, sym, refl, ap, ◌∙◌, subst, ⊎_elim, arith}
-use Rattle.std.proofs.lemmas.Bool.{eq-eqb, ne_eqb, cases_eq, ltb-true, ltb-false, lt-ltb}
+use Rattle.std.proofs.Common.{◌≡◌, ℕ, ◌<◌, true, false, ltb, List, length, get_or, Some, None, sym, refl, ap, ◌∙◌, subst, ⊎_elim, arith}
+use Rattle.std.proofs.lemmas.Bool.{eq-eqb, ne_eqb, cases_eq, ltb-true, ltb-false}
 use Rattle.message.specs.Meaning.{Msg, security}
 use Rattle.store.specs.Kind.{Kind, Model}
 use Rattle.recovery.specs.declared.marks.Mark.{Mark}
-use Rattle.recovery.specs.Reading.{is_of}
 use Rattle.recovery.specs.Books.{Book, kind_at}
-use Rattle.recovery.specs.State.{slot_in, distinct, rest_of}
+use Rattle.recovery.specs.State.{slot_in, distinct}
 use Rattle.settling.specs.Slots.{slot_found}
 use Rattle.settling.specs.Passes.{feed, heeded}
 use Rattle.settling.specs.Each.{Meets, Each, Puts, book_at, kind_in}

@@ -1,5 +1,5 @@
 -- What one message and one packet do to the book of one instrument, where it stands at n.
-use Rattle.std.specs.Prelude.{ℕ, Bool, true, false, cond, ◌&&◌, List, [], ◌∷◌}
+use Rattle.std.specs.Prelude.{ℕ, cond, ◌&&◌, List, [], ◌∷◌}
 use Rattle.message.specs.Meaning.{Msg, body, security}
 use Rattle.store.specs.Kind.{Kind}
 use Rattle.recovery.specs.Shelf.{Found, upon}

@@ -1,5 +1,5 @@
 -- What noting packets does to the shares of a book's marks.
-use Rattle.std.specs.Prelude.{ℕ, ◌+◌, ◌-◌, ◌^◌, min, Bool, true, false, cond, ◌==◌, nat_lt}
+use Rattle.std.specs.Prelude.{ℕ, ◌+◌, ◌-◌, ◌^◌, min, cond, ◌==◌, nat_lt}
 use Rattle.recovery.specs.declared.answers.Sign.{Sign}
 use Rattle.recovery.specs.declared.answers.Sign.TheVariants.{Stale, Recovering, Current}
 use Rattle.shares.specs.declared.share.Stretch.{Stretch}

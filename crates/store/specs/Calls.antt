@@ -1,5 +1,5 @@
 -- What each call of a store answers and leaves.
-use Rattle.std.specs.Prelude.{ℕ, Bool, cond, ◌&&◌, length, Ok, Err, Result, nat_lt, slice_index_or, slice_set}
+use Rattle.std.specs.Prelude.{ℕ, Bool, cond, length, Ok, Err, Result, nat_lt, slice_index_or, slice_set}
 use Rattle.message.specs.declared.values.HeaderFields.{HeaderFields}
 use Rattle.message.specs.Meaning.{Body, Part}
 use Rattle.store.specs.declared.fault.StoreFault.{StoreFault}

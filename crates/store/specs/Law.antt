@@ -1,7 +1,7 @@
 -- What every kind of store has to show of its images and of the pieces that do not concern it.
-use Rattle.std.specs.Prelude.{◌≡◌, Bool, true, false, List, [], ◌∷◌}
+use Rattle.std.specs.Prelude.{◌≡◌, true, false, List, [], ◌∷◌}
 use Rattle.message.specs.declared.values.HeaderFields.{HeaderFields}
-use Rattle.message.specs.Meaning.{Body, Part, broken, torn}
+use Rattle.message.specs.Meaning.{Part, broken, torn}
 use Rattle.store.specs.Kind.{Kind}
 
 module _ {V O : Type 0} (K : Kind V O) where

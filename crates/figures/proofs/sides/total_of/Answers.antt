@@ -1,4 +1,4 @@
-use Rattle.std.proofs.Common.{◌≡◌, ℕ, ◌+◌, List, take, pos, sym, ap, ◌∙◌, arith, rules}
+use Rattle.std.proofs.Common.{pos, ap, ◌∙◌, arith, rules}
 use Rattle.std.proofs.lemmas.List.Sums.{sum_by_more}
 use Rattle.std.proofs.lemmas.List.{take_all}
 use Rattle.message.specs.declared.values.Order.{Order}

@@ -7,7 +7,7 @@ use Rattle.layout.specs.Lawful.{find}
 use Rattle.packet.specs.declared.fault.FrameFault.{FrameFault}
 use Rattle.packet.specs.declared.head.MessageHead.{MessageHead}
 use Rattle.packet.specs.Rules.{and_then, message_head, head_check, layout_check, message_check}
-use Rattle.packet.proofs.Steps.{ok_unit, message_by_head}
+use Rattle.packet.proofs.Steps.{message_by_head}
 use Rattle.packet.proofs.rules.message_check.Goals as goal
 
 judged : (s : Sheet) (bs : List ℕ) (at : ℕ) (h : MessageHead) (l : Layout) (r : Result (Unit {0}) FrameFault) → is_ok (head_check bs at) ≡ true → h ≡ message_head bs → find (vec_items s.templates) h.template ≡ Some l → r ≡ layout_check (Some l) (take (h.length - 0) bs) h.block at → and_then r (λ _. Ok h.length) ≡ message_check s bs at

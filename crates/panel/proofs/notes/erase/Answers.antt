@@ -1,4 +1,4 @@
-use Rattle.std.proofs.Common.{length, get_or, replicate, None, sym, ap, ◌∙◌, arith}
+use Rattle.std.proofs.Common.{length, replicate, None, sym, ◌∙◌, arith}
 use Rattle.std.proofs.lemmas.List.Edits.{fill_by_more}
 use Rattle.std.proofs.lemmas.List.{ext_get_or, length-replicate, get_or-replicate}
 use Rattle.panel.proofs.notes.erase.Goals as goal

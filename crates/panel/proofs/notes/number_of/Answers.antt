@@ -1,4 +1,4 @@
-use Rattle.std.proofs.Common.{◌≡◌, sym, ◌∙◌}
+use Rattle.std.proofs.Common.{sym, ◌∙◌}
 use Rattle.panel.proofs.Noting.{find-here, find-more, find_none}
 use Rattle.panel.proofs.notes.number_of.Goals as goal
 

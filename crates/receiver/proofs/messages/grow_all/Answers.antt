@@ -1,5 +1,5 @@
-use Rattle.std.proofs.Common.{◌≡◌, length, sym, refl, ap, ◌∙◌, subst}
-use Rattle.message.specs.Meaning.{parts, entry, or_torn, entry_fields}
+use Rattle.std.proofs.Common.{◌≡◌, length, sym, ap, ◌∙◌, subst}
+use Rattle.message.specs.Meaning.{entry, or_torn, entry_fields}
 use Rattle.recovery.specs.Reading.{adds, entries_for}
 use Rattle.recovery.specs.Groups.{event_step, event_steps}
 use Rattle.recovery.specs.Log.{event_log, event_logs}

@@ -1,5 +1,5 @@
 use Rattle.std.proofs.Common.{◌≡◌, true, length}
-use Rattle.message.specs.Meaning.{parts, entry_parts}
+use Rattle.message.specs.Meaning.{parts}
 use Rattle.settling.specs.Watched.{watch_of}
 use Rattle.receiver.specs.Standings.{opening_of, state_in, attended}
 use Rattle.receiver.proofs.Telling.{ToCome}

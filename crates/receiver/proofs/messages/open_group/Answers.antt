@@ -1,4 +1,4 @@
-use Rattle.std.proofs.Common.{◌≡◌, length, sym, refl, ap, ◌∙◌, ap₂}
+use Rattle.std.proofs.Common.{length, sym, refl, ap, ◌∙◌, ap₂}
 use Rattle.recovery.specs.Reading.{opens, closes, opens_for}
 use Rattle.recovery.specs.Groups.{event_steps}
 use Rattle.recovery.specs.Log.{event_logs}

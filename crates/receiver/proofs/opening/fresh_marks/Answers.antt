@@ -1,4 +1,4 @@
-use Rattle.std.proofs.Common.{◌≡◌, ℕ, get_or, replicate, sym, refl, ap, ◌∙◌, arith, length-set}
+use Rattle.std.proofs.Common.{get_or, refl, ◌∙◌, arith, length-set}
 use Rattle.recovery.specs.declared.marks.Mark.TheVariants.{Stale, AsOf}
 use Rattle.settling.proofs.Writes.{set_at}
 use Rattle.receiver.proofs.Fresh.{fresh-more, stale_start}

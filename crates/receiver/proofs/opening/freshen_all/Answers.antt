@@ -1,4 +1,4 @@
-use Rattle.std.proofs.Common.{◌≡◌, [], sym, refl, ap, ◌∙◌, subst}
+use Rattle.std.proofs.Common.{◌≡◌, [], refl, ap, ◌∙◌, subst}
 use Rattle.store.specs.Calls.{value_at, freshened}
 use Rattle.settling.proofs.Writes.{fresh_at}
 use Rattle.receiver.proofs.Fresh.{fresh-none, fresh-more}

@@ -1,4 +1,4 @@
-use Rattle.std.proofs.Common.{◌≡◌, ◌+◌, ◌<◌, ◌≤◌, length, is_ok, sym, refl, ap, ◌∙◌, subst, arith}
+use Rattle.std.proofs.Common.{◌≡◌, ◌+◌, ◌<◌, length, is_ok, sym, ap, ◌∙◌, subst, arith}
 use Rattle.packet.specs.Rules.{packet_check, packet_head}
 use Rattle.recovery.specs.Shelf.{part_of, written}
 use Rattle.receiver.specs.Standings.{opening_of}

@@ -1,4 +1,4 @@
-use Rattle.std.proofs.Common.{◌≡◌, ℕ, List, [], length, sym, refl, ap, ◌∙◌}
+use Rattle.std.proofs.Common.{◌≡◌, ℕ, length, ap, ◌∙◌}
 use Rattle.recovery.specs.State.{State}
 use Rattle.recovery.specs.Steps.{snapshot_step, snapshot_answer}
 use Rattle.receiver.specs.declared.join.Join.{Join}

@@ -1,4 +1,4 @@
-use Rattle.std.proofs.Common.{[], length, take, drop, sym, ap, ◌∙◌, arith}
+use Rattle.std.proofs.Common.{[], take, drop, sym, ap, ◌∙◌, arith}
 use native.Mathlib.Numerals.{unary_clauses}
 use Rattle.std.proofs.lemmas.List.{length-drop, take_all, take_rest, drop_all}
 use Rattle.replay.proofs.taping.part.Goals as goal

@@ -1,4 +1,4 @@
-use Rattle.std.proofs.Common.{◌≡◌, ◌+◌, sym, refl, ap, ◌∙◌, subst, arith}
+use Rattle.std.proofs.Common.{◌+◌, refl, ap, ◌∙◌, subst, arith}
 use Rattle.recovery.specs.Shelf.{reading}
 use Rattle.settling.specs.Watched.{watch_of}
 use Rattle.settling.specs.Passes.{pass}

@@ -1,4 +1,4 @@
-use Rattle.std.proofs.Common.{◌+◌, sym, refl, ◌∙◌, arith}
+use Rattle.std.proofs.Common.{◌+◌, sym, arith}
 use Rattle.std.proofs.lemmas.List.{take_rest}
 use Rattle.settling.proofs.Finding.{distinct_more, distinct_not, distinct-all}
 use Rattle.settling.proofs.slots.all_different.Goals as goal

@@ -1,4 +1,4 @@
-use Rattle.std.proofs.Common.{◌-◌, ◌≤◌, length, refl, ◌∙◌, arith, length-set}
+use Rattle.std.proofs.Common.{◌-◌, length, refl, ◌∙◌, arith, length-set}
 use Rattle.settling.proofs.Finding.{near-start, near-more}
 use Rattle.settling.proofs.slots.hints.Goals as goal
 

@@ -1,4 +1,4 @@
-use Rattle.std.proofs.Common.{arith, rules}
+use Rattle.std.proofs.Common.{arith}
 use Rattle.settling.proofs.Finding.{slot_here, slot_later, slot_none}
 use Rattle.settling.proofs.slots.place_from.Goals as goal
 

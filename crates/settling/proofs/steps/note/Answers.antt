@@ -1,5 +1,5 @@
 use Rattle.std.proofs.Common.{arith}
-use Rattle.settling.proofs.Writes.{note_falls, note_stays}
+use Rattle.settling.proofs.Writes.{note_falls}
 use Rattle.settling.proofs.steps.note.Goals as goal
 
 pub returns-then-note : goal.returns-then-note

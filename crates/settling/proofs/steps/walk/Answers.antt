@@ -1,4 +1,4 @@
-use Rattle.std.proofs.Common.{◌≡◌, ◌∷◌, sym, refl, ap, ◌∙◌, subst, ap₂}
+use Rattle.std.proofs.Common.{◌∷◌, sym, ap, ◌∙◌, subst, ap₂}
 use Rattle.packet.specs.Rules.{messages_from}
 use Rattle.message.specs.Views.{view}
 use Rattle.settling.specs.Watched.{watch_of}

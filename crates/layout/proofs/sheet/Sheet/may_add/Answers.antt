@@ -1,4 +1,4 @@
-use Rattle.std.proofs.Common.{◌≡◌, vec_items, sym, ◌∙◌}
+use Rattle.std.proofs.Common.{vec_items, sym, ◌∙◌}
 use Rattle.layout.proofs.Adds.{push_lawful}
 use Rattle.layout.proofs.sheet.Sheet.may_add.Goals as goal
 

@@ -1,4 +1,4 @@
-use Rattle.std.proofs.Common.{◌≡◌, Some, sym, ap, ◌∙◌, arith}
+use Rattle.std.proofs.Common.{Some, sym, ap, ◌∙◌, arith}
 use Rattle.layout.specs.Lawful.{find}
 use Rattle.layout.proofs.Finds.{find-start, find-here, find_next, find-end}
 use Rattle.layout.proofs.sheet.Sheet.template.Goals as goal

@@ -1,4 +1,4 @@
-use Rattle.std.proofs.Common.{◌≡◌, true, length, drop, is_ok, sym, refl, ap, subst, arith, length-drop}
+use Rattle.std.proofs.Common.{◌≡◌, true, length, is_ok, sym, refl, ap, subst, arith, length-drop}
 use Rattle.std.proofs.lemmas.List.{take_rest}
 use Rattle.packet.specs.Rules.{walk_check}
 use Rattle.packet.proofs.Steps.{packet_ok}

@@ -1,6 +1,6 @@
-use Rattle.std.proofs.Common.{◌≡◌, ◌+◌, true, length, drop, is_ok, sym, refl, ap, ◌∙◌, subst, arith}
-use Rattle.packet.specs.Rules.{walk_check, message_head}
-use Rattle.packet.proofs.Steps.{Front, front}
+use Rattle.std.proofs.Common.{◌≡◌, ◌+◌, true, drop, is_ok, sym, refl, ap, subst, arith}
+use Rattle.packet.specs.Rules.{walk_check}
+use Rattle.packet.proofs.Steps.{front}
 use Rattle.packet.proofs.Handed.{handed, short-end, same_layout}
 use Rattle.packet.proofs.checked.Walk.next.Goals as goal
 

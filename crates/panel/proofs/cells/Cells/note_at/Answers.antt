@@ -1,4 +1,4 @@
-use Rattle.std.proofs.Common.{◌≡◌, ℕ, ◌+◌, ◌-◌, ◌*◌, take, drop, ap, ◌∙◌, arith, rules}
+use Rattle.std.proofs.Common.{◌≡◌, ◌+◌, ◌-◌, ◌*◌, take, drop, ap, ◌∙◌, arith, rules}
 use Rattle.panel.specs.Numbers.{noted}
 use Rattle.panel.specs.Cells.{templates_of}
 use Rattle.panel.proofs.Putting.{puts}

@@ -1,4 +1,4 @@
-use Rattle.std.proofs.Common.{◌≡◌, length, Ok, sym, refl, ap, ◌∙◌, subst}
+use Rattle.std.proofs.Common.{length, Ok, sym, refl, ap, ◌∙◌}
 use Rattle.receiver.specs.Standings.{opening_of, plain_of}
 use Rattle.receiver.proofs.Accepted.{judges, taken}
 use Rattle.receiver.proofs.receiver.Receiver.incremental.Goals as goal

@@ -1,4 +1,4 @@
-use Rattle.std.proofs.Common.{◌≡◌, length, sym, refl, ap, ◌∙◌}
+use Rattle.std.proofs.Common.{length, sym, ap}
 use Rattle.settling.specs.Watched.{watch_of}
 use Rattle.receiver.specs.Standings.{attended}
 use Rattle.receiver.proofs.Fresh.{opens-fresh, listed}

@@ -1,4 +1,4 @@
-use Rattle.std.proofs.Common.{◌≡◌, ℕ, List, [], length, sym, refl, ap, ◌∙◌}
+use Rattle.std.proofs.Common.{[], length, refl, ap, ◌∙◌}
 use Rattle.recovery.specs.State.{State}
 use Rattle.recovery.specs.Answers.{join_check, present_join}
 use Rattle.receiver.specs.declared.plain.Plain.{Plain}

@@ -1,4 +1,3 @@
-use Rattle.std.proofs.Common.{◌≡◌, ℕ, List, [], length, sym, refl, ap, ◌∙◌}
 use Rattle.receiver.specs.Standings.{opening_of, state_in}
 use Rattle.replay.proofs.desk.Desk.question.Goals as goal
 

@@ -1,4 +1,4 @@
-use Rattle.std.proofs.Common.{◌≡◌, true, sym, ap, ◌∙◌, subst}
+use Rattle.std.proofs.Common.{◌≡◌, true, sym, subst}
 use Rattle.recovery.specs.State.{distinct}
 use Rattle.settling.specs.Slots.{Near}
 use Rattle.settling.proofs.watch.Watch.new.Goals as goal
