@@ -5,8 +5,9 @@
 
 A word is in snake case: a name such as packetCheck becomes packet_check, and messages-few becomes messages_few. A dash stays
 where it joins two names that are declared or of the library, as in le_at-drop. Names that the check makes (a function's goals,
-invariants and measures, and what stands behind a dot in its answers), the names of src/, strings and file names stay. A lemma that would fall together with another name gets _lem. Also renames the crate `hex`, since the
-toolchain has a library of that name, to `hex_digits`. Prints each name that changed, and what to look at.
+invariants and measures, and what stands behind a dot in its answers), the names of src/, strings and file names stay. A lemma that
+would fall together with another name gets _lem. Also renames the crate `hex`, since the toolchain has a library of that name, to
+`hex_digits`. Prints each name that changed, and what to look at.
 """
 import collections
 import pathlib

@@ -6,7 +6,7 @@ use Rattle.layout.specs.declared.sheet.Sheet.{Sheet}
 use Rattle.store.specs.Kind.{Kind, Model}
 use Rattle.store.specs.declared.fault.StoreFault.{StoreFault}
 use Rattle.store.specs.declared.fault.StoreFault.TheVariants.{Slot, Owed}
-use Rattle.store.specs.Calls.{has_slot, is_whole, value_at, with_slot, adopt_answer, adopted as storeAdopted}
+use Rattle.store.specs.Calls.{has_slot, is_whole, value_at, with_slot, adopt_answer, adopted as store_adopted}
 use Rattle.recovery.specs.declared.marks.Mark.{Mark}
 use Rattle.recovery.specs.declared.marks.Mark.TheVariants.{Stale, AsOf}
 use Rattle.recovery.specs.declared.marks.Group.{Group}
@@ -48,7 +48,7 @@ module _ {V O : Type 0} (K : Kind V O) (u : Subscription) (p p' : Plain) (m m' :
   pub wants : true ≡ wanted K (opening_of u) g (state_in K u p m bytes)
   wants = sym (ap (λ z. ltb z (length m.slots) && not (idle (get_or p.marks.at z Stale) g.last p.places.heard)) (sym is) ∙ rw (fit.0, busy))
 
-  module _ (after : m' ≡ storeAdopted K m slot) (marks : p'.marks.at ≡ set p.marks.at slot (comes (Whole g.last p.places.heard) (get_or p.marks.at slot Stale)))
+  module _ (after : m' ≡ store_adopted K m slot) (marks : p'.marks.at ≡ set p.marks.at slot (comes (Whole g.last p.places.heard) (get_or p.marks.at slot Stale)))
       (heard : p'.places.heard ≡ max p.places.heard g.last) (numbers : p'.places.numbers ≡ p.places.numbers) (lengths : p'.places.lengths ≡ p.places.lengths)
       (joined : p'.joined ≡ p.joined) (followed : p'.followed ≡ p.followed) (pending : p'.pending ≡ p.pending) where
     shelf-is : (k : ℕ) → shelf_of u.sheet p'.places.heard p'.places.numbers p'.places.lengths bytes k ≡ kept (max p.places.heard g.last) (shelf_of u.sheet p.places.heard p.places.numbers p.places.lengths bytes) k
