@@ -1,5 +1,5 @@
 -- A receiver at its opening.
-use Rattle.std.proofs.Common.{◌≡◌, ℕ, zero, suc, ◌+◌, ◌%◌, ◌<◌, ◌≤◌, Bool, true, false, cond, not, ◌&&◌, eqb, ltb, leb, ◌⊎◌, List, length, get_or, replicate, Ok, sym, refl, ap, ◌∙◌, ap₂, ⊎_elim, arith}
+use Rattle.std.proofs.Common.{◌≡◌, ℕ, zero, suc, ◌+◌, ◌%◌, ◌<◌, ◌≤◌, Bool, true, false, cond, not, ◌&&◌, eqb, ltb, leb, ◌⊎◌, List, ◌++◌, length, get_or, take, drop, replicate, None, Ok, sym, refl, ap, ◌∙◌, ap₂, ⊎_elim, arith}
 use Rattle.std.proofs.lemmas.Bool.{eq-eqb, ne_eqb, lt-ltb, le-ltb, leb-true, cases_order, and_parts, not-false}
 use Rattle.std.proofs.lemmas.Bool.Decides.{nat_tests}
 use Rattle.layout.specs.declared.sheet.Sheet.{Sheet}
@@ -7,8 +7,6 @@ use Rattle.store.specs.Kind.{Kind, Model}
 use Rattle.store.specs.Calls.{value_at}
 use Rattle.recovery.specs.declared.marks.Mark.{Mark}
 use Rattle.recovery.specs.declared.marks.Mark.TheVariants.{Stale, AsOf}
-use Rattle.recovery.specs.declared.marks.Followed.TheVariants.{Nothing}
-use Rattle.recovery.specs.declared.marks.Pending.TheVariants.{Closed}
 use Rattle.recovery.specs.declared.fault.StreamFault.TheVariants.{WatchList}
 use Rattle.recovery.specs.Shelf.{absent, shelf_of}
 use Rattle.recovery.specs.Books.{book}
@@ -34,13 +32,20 @@ fresh-more n f₀ f f' x was wrote q = wrote q ∙ ap (λ z. cond (eqb q n) x z)
 pub fresh-none : {V : Type 0} (f : ℕ → V) (x : V) (q : ℕ) → f q ≡ cond (ltb q 0) x (f q)
 fresh-none f x q = rw (le-ltb q 0 (omega arith))
 
-stale_all : (n q : ℕ) → get_or (replicate n Stale) q Stale ≡ Stale
-stale_all zero q = refl
-stale_all (suc n) zero = refl
-stale_all (suc n) (suc q) = stale_all n q
+same_all : {X : Type 0} (m q : ℕ) (y : X) → get_or (replicate m y) q y ≡ y
+same_all zero q y = refl
+same_all (suc m) zero y = refl
+same_all (suc m) (suc q) y = same_all m q y
 
-pub stale_start : (n q : ℕ) → get_or (replicate n Stale) q Stale ≡ cond (ltb q 0) (AsOf 0) Stale
-stale_start n q = stale_all n q ∙ fresh-none (λ _. Stale) (AsOf 0) q
+-- the first n of m places are filled with x
+pub filled : {X : Type 0} (n m q : ℕ) (x y : X) → n ≤ m → get_or (replicate (length (take n (replicate m y))) x ++ drop n (replicate m y)) q y ≡ cond (ltb q n) x y
+filled zero m q x y le = rw (le-ltb q 0 (omega arith)) (same_all m q y)
+filled (suc n) zero q x y le = absurd (omega arith)
+filled (suc n) (suc m) zero x y le = rw (lt-ltb 0 (suc n) (omega arith)) refl
+filled (suc n) (suc m) (suc q) x y le = filled n m q x y (omega arith) ∙ ap (λ b. cond b x y) (less_below q n)
+  where
+    less_below : (j k : ℕ) → ltb j k ≡ ltb (suc j) (suc k)
+    less_below j k = grind (arith, nat_tests)
 
 fresh-book : {V : Type 0} (b : Bool) (x : Mark) (v w d : V) → x ≡ cond b (AsOf 0) Stale → v ≡ cond b d w → book x v ≡ cond b (book (AsOf 0) d) (book Stale w)
 fresh-book true x v w d e f = ap₂ book e f
@@ -51,7 +56,7 @@ bare : (sheet : Sheet) (t : Places) (bytes : List ℕ) → t.heard ≡ 0 → (k 
 bare sheet t bytes e k = let u = t.low (k % 32) in grind (arith, nat_tests)
 
 pub opens-fresh : {V O : Type 0} (K : Kind V O) (u : Subscription) (p : Plain) (s s' : Model V O) (n : ℕ) (bytes : List ℕ) → n ≡ length (watch_of u.watch)
-    → p.places.heard ≡ 0 → p.joined ≡ false → p.followed ≡ Nothing → p.pending ≡ Closed
+    → p.places.heard ≡ 0 → p.joined ≡ false → p.followed ≡ None → p.pending ≡ None
     → ((q : ℕ) → get_or p.marks.at q Stale ≡ cond (ltb q n) (AsOf 0) Stale) → ((q : ℕ) → value_at K s' q ≡ cond (ltb q n) K.fresh (value_at K s q)) → rest_of K s ≡ rest_of K s'
     → state_in K u p s' bytes ≡ opened K (opening_of u) s
 opens-fresh K u p s s' n bytes is heard joined followed pending marks values rest = λ j. record {

@@ -1,19 +1,31 @@
 -- The events and messages of a snapshot packet, one by one.
-use Rattle.std.proofs.Common.{◌≡◌, ℕ, zero, suc, ◌+◌, ◌-◌, ◌≤◌, Bool, true, false, List, [], ◌∷◌, length, sym, refl, ap, ◌∙◌, arith}
+use Rattle.std.proofs.Common.{◌≡◌, ℕ, zero, suc, ◌+◌, ◌-◌, ◌≤◌, Bool, true, false, List, [], ◌∷◌, length, Some, None, Option, sym, refl, ap, ◌∙◌, arith}
+use Rattle.std.specs.Option.{option_zip}
 use Rattle.std.proofs.lemmas.List.{length-append}
 use Rattle.layout.specs.declared.kinds.EntriesLayout.{EntriesLayout}
 use Rattle.layout.specs.declared.sheet.Sheet.{Sheet}
 use Rattle.layout.specs.Wire.{le_at}
+use Rattle.message.specs.declared.values.HeaderFields.{HeaderFields}
 use Rattle.message.specs.Meaning.{Msg, Part, entry, or_torn, entry_fields}
 use Rattle.packet.specs.Rules.{messages_from}
 use Rattle.store.specs.Kind.{Kind}
-use Rattle.recovery.specs.declared.marks.Pending.TheVariants.{Closed}
-use Rattle.recovery.specs.Reading.{Event, adds, entries_for, told}
+use Rattle.recovery.specs.Reading.{Event, opens, closes, adds, opens_for, entries_for, told}
 use Rattle.recovery.specs.State.{Opening, State}
 use Rattle.recovery.specs.Updates.{on_pending}
 use Rattle.recovery.specs.Groups.{event_step, event_steps, message_steps, grown}
 use Rattle.recovery.specs.Log.{event_log, event_logs, message_logs}
 use Rattle.receiver.specs.Standings.{bit}
+
+-- a header is read for an opening where both its instrument and its fields are there, and for a closing otherwise
+pub both_there : (i : Option ℕ) (h : Option HeaderFields) (j : ℕ) (f : HeaderFields) → Some (j, f) ≡ option_zip i h → opens_for i h ≡ opens j f ∷ []
+both_there None h j f e = let z : ◌≡◌ {A = ℕ} 0 1 = cc in absurd (omega arith)
+both_there (Some i) None j f e = let z : ◌≡◌ {A = ℕ} 0 1 = cc in absurd (omega arith)
+both_there (Some i) (Some h) j f e = let q : ◌≡◌ {A = ℕ × HeaderFields} (j, f) (i, h) = cc in sym (ap (λ z. opens z.0 z.1 ∷ []) q)
+
+pub one_missing : (i : Option ℕ) (h : Option HeaderFields) → None ≡ option_zip i h → opens_for i h ≡ closes ∷ []
+one_missing None h e = refl
+one_missing (Some i) None e = refl
+one_missing (Some i) (Some h) e = let z : ◌≡◌ {A = ℕ} 0 1 = cc in absurd (omega arith)
 
 -- there are no more messages than bytes
 pub few-messages : (sheet : Sheet) (k : ℕ) (bs : List ℕ) → length (messages_from sheet k bs) ≤ length bs
@@ -46,18 +58,18 @@ module _ {V O : Type 0} (K : Kind V O) (o : Opening) where
   pub logs_one : (e : Event) (s : State V O) (n : ℕ) → length (event_log K o e s) ≡ n → length (event_logs K o (e ∷ []) s) ≡ n
   logs_one e s n is = let f = logs_next e [] s in let h = logs_none (event_step K o e s) in omega arith
 
-  step_closed : (i : ℕ) (p : Part) (s : State V O) → s.plain.pending ≡ Closed → event_step K o (adds i p) s ≡ s
+  step_closed : (i : ℕ) (p : Part) (s : State V O) → s.plain.pending ≡ None → event_step K o (adds i p) s ≡ s
   step_closed i p s e = ap (λ z. on_pending z s (λ g. grown K o i p g s)) e
 
-  log_closed : (i : ℕ) (p : Part) (s : State V O) → s.plain.pending ≡ Closed → length (event_log K o (adds i p) s) ≡ 0
+  log_closed : (i : ℕ) (p : Part) (s : State V O) → s.plain.pending ≡ None → length (event_log K o (adds i p) s) ≡ 0
   log_closed i p s e = rw e
 
   -- entries meet no open group
-  closed_steps : (i : ℕ) (l : EntriesLayout) (es : List (List ℕ)) (s : State V O) → s.plain.pending ≡ Closed → event_steps K o (entries_for i l es) s ≡ s
+  closed_steps : (i : ℕ) (l : EntriesLayout) (es : List (List ℕ)) (s : State V O) → s.plain.pending ≡ None → event_steps K o (entries_for i l es) s ≡ s
   closed_steps i l [] s e = steps_none s
   closed_steps i l (x ∷ es) s e = steps_next _ (entries_for i l es) s ∙ ap (event_steps K o (entries_for i l es)) (step_closed i (or_torn entry (entry_fields l x)) s e) ∙ closed_steps i l es s e
 
-  closed_logs : (i : ℕ) (l : EntriesLayout) (es : List (List ℕ)) (s : State V O) → s.plain.pending ≡ Closed → length (event_logs K o (entries_for i l es) s) ≡ 0
+  closed_logs : (i : ℕ) (l : EntriesLayout) (es : List (List ℕ)) (s : State V O) → s.plain.pending ≡ None → length (event_logs K o (entries_for i l es) s) ≡ 0
   closed_logs i l [] s e = logs_none s
   closed_logs i l (x ∷ es) s e =
       let a = logs_next (adds i (or_torn entry (entry_fields l x))) (entries_for i l es) s in
@@ -85,7 +97,7 @@ module _ {V O : Type 0} (K : Kind V O) (o : Opening) where
     pub come_next : (r : Bool) → length (event_log K o (adds i (or_torn entry (entry_fields l x))) s) ≡ bit r → r ≡ false → ToCome i l es₀ es' s₀ s'
     come_next r e f = record { steps = inv.steps ∙ next_steps; logs = let a = inv.logs in let b = next_logs r e in let c = ap bit f in omega arith }
 
-    pub come_adopted : (r : Bool) → length (event_log K o (adds i (or_torn entry (entry_fields l x))) s) ≡ bit r → r ≡ true → s'.plain.pending ≡ Closed
+    pub come_adopted : (r : Bool) → length (event_log K o (adds i (or_torn entry (entry_fields l x))) s) ≡ bit r → r ≡ true → s'.plain.pending ≡ None
         → (s' ≡ event_steps K o (entries_for i l es₀) s₀) × (length (event_logs K o (entries_for i l es₀) s₀) ≡ 1)
     come_adopted r e f shut = (
       sym (inv.steps ∙ next_steps ∙ closed_steps i l es' s' shut),

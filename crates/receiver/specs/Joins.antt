@@ -1,11 +1,9 @@
 -- What a join, a leave and a question answer, and what they leave of the plain part.
-use Rattle.std.specs.Prelude.{ℕ, true, false, Ok, Err, Result, slice_index_or}
+use Rattle.std.specs.Prelude.{ℕ, true, false, None, Ok, Err, Result, slice_index_or}
 use Rattle.packet.specs.Rules.{and_then}
 use Rattle.recovery.specs.declared.answers.Standing.{Standing}
 use Rattle.recovery.specs.declared.fault.StreamFault.{StreamFault}
-use Rattle.recovery.specs.declared.marks.Followed.TheVariants.{Nothing}
 use Rattle.recovery.specs.declared.marks.Mark.TheVariants.{Stale}
-use Rattle.recovery.specs.declared.marks.Pending.TheVariants.{Closed}
 use Rattle.recovery.specs.State.{slot_of, Plain as PlainState}
 use Rattle.recovery.specs.Answers.{join_check, present_join, question_check, standing}
 use Rattle.receiver.specs.declared.subscription.Subscription.{Subscription}
@@ -23,7 +21,7 @@ joining p = record { places = p.places; marks = p.marks; joined = true; followed
 
 -- leaving closes the open group and forgets the loop
 abbrev pub leaving : Plain → Plain
-leaving p = record { places = p.places; marks = p.marks; joined = false; followed = Nothing; pending = Closed }
+leaving p = record { places = p.places; marks = p.marks; joined = false; followed = None; pending = None }
 
 -- a leave that is refused hands the join back
 abbrev pub hand_back : Join → Result (Unit {0}) StreamFault → Result (Unit {0}) Left

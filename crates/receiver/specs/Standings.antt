@@ -1,9 +1,8 @@
 -- The state that a receiver's parts stand for, together with its store and its shelf.
-use Rattle.std.specs.Prelude.{ℕ, Bool, true, cond, List, length, nat_lt}
+use Rattle.std.specs.Prelude.{ℕ, Bool, true, cond, List, length, Some, None, Option, nat_lt}
 use Rattle.layout.specs.declared.sheet.Sheet.{Sheet}
 use Rattle.store.specs.Kind.{Kind, Model}
-use Rattle.recovery.specs.declared.marks.Pending.{Pending}
-use Rattle.recovery.specs.declared.marks.Pending.TheVariants.{Closed, Open}
+use Rattle.recovery.specs.declared.marks.Group.{Group}
 use Rattle.recovery.specs.Shelf.{shelf_of}
 use Rattle.recovery.specs.State.{Opening, Plain as PlainState, State, slot_in, state_of}
 use Rattle.settling.specs.Watched.{watch_of}
@@ -29,9 +28,9 @@ abbrev pub state_in : {V O : Type 0} → Kind V O → Subscription → Plain →
 state_in K u p s bytes = state_of K (plain_of u.sheet p bytes) p.marks.at s
 
 -- an open group is of a watched instrument
-abbrev pub attended : List ℕ → Pending → Bool
-attended w Closed = true
-attended w (Open g) = nat_lt (slot_in w g.security) (length w)
+abbrev pub attended : List ℕ → Option Group → Bool
+attended w None = true
+attended w (Some g) = nat_lt (slot_in w g.security) (length w)
 
 abbrev pub bit : Bool → ℕ
 bit b = cond b 1 0

@@ -10,7 +10,7 @@ use crate::receiver::Receiver;
 use crate::renewal::receive;
 use recovery::answers::{Incremental, Sign, Standing};
 use recovery::fault::StreamFault;
-use recovery::marks::{Followed, Mark, Pending};
+use recovery::marks::Mark;
 use store::store::Store;
 
 // How a book with this mark stands.
@@ -85,8 +85,8 @@ impl Receiver {
             Ok(()) => {
                 let Join { own: _ } = join;
                 self.plain.joined = false;
-                self.plain.followed = Followed::Nothing;
-                self.plain.pending = Pending::Closed;
+                self.plain.followed = None;
+                self.plain.pending = None;
                 Ok(())
             }
         }
@@ -96,10 +96,10 @@ impl Receiver {
     pub fn slot(&self, instrument: u64) -> Result<usize, StreamFault>
         ensures { result ≡ slot_answer self.now.sub instrument }
     {
-        match self.sub.watch.slot(instrument) {
-            Some(slot) => Ok(slot),
-            None => Err(StreamFault::Instrument),
-        }
+        self.sub
+            .watch
+            .slot(instrument)
+            .ok_or(StreamFault::Instrument)
     }
 
     // How the book of an instrument stands.

@@ -14,7 +14,7 @@ use packet::head::PacketHead;
 use packet::rules::check;
 use recovery::answers::Incremental;
 use recovery::fault::StreamFault;
-use recovery::marks::{Followed, Pending};
+use recovery::marks::Followed;
 use settling::slots::all_different;
 
 fn lawful_version(version: u16) -> bool
@@ -146,34 +146,32 @@ impl Subscription {
 }
 
 impl Plain {
-    // Whether packet s of the loop l has been taken already.
-    pub(crate) fn again(&self, l: u16, s: u32) -> bool
-        ensures { result ≡ again self.now.followed l s }
+    // Whether a snapshot packet with this header has been taken already.
+    pub(crate) fn again(&self, h: PacketHead) -> bool
+        ensures { result ≡ again self.now.followed h.version h.number }
     {
-        match self.followed {
-            Followed::Nothing => false,
-            Followed::Upto(loop_number, last) => l == loop_number && s <= last,
-        }
+        self.followed
+            .is_some_and(|f| h.version == f.loop_number && h.number <= f.last)
     }
 
     // Notes a snapshot packet, which closes the open group unless it is the one that is due.
     pub(crate) fn note(&mut self, h: PacketHead)
         ensures { self.new ≡ noted_plain h self.old }
     {
-        if !self.is_next(h.version, h.number) {
-            self.pending = Pending::Closed;
+        if !self.is_next(h) {
+            self.pending = None;
         }
-        self.followed = Followed::Upto(h.version, h.number);
+        self.followed = Some(Followed {
+            loop_number: h.version,
+            last: h.number,
+        });
     }
 
-    // Whether packet s of the loop l is the one that is due.
-    fn is_next(&self, l: u16, s: u32) -> bool
-        ensures { result ≡ is_next self.now.followed l s }
+    // Whether a snapshot packet with this header is the one that is due.
+    fn is_next(&self, h: PacketHead) -> bool
+        ensures { result ≡ is_next self.now.followed h.version h.number }
     {
-        match self.followed {
-            Followed::Nothing => false,
-            Followed::Upto(loop_number, last) => l == loop_number
-                && u64::from(s) == u64::from(last) + 1,
-        }
+        self.followed.is_some_and(|f| h.version == f.loop_number
+            && u64::from(h.number) == u64::from(f.last) + 1)
     }
 }

@@ -1,8 +1,7 @@
-ghost use Rattle.std.specs.Prelude.{◌≡◌, ◌<◌, ◌≤◌, max, true, length, if◌then◌else◌, slice_index_or, slice_set};
+ghost use Rattle.std.specs.Prelude.{◌≡◌, ◌<◌, ◌≤◌, max, true, length, None, if◌then◌else◌, slice_index_or, slice_set};
 ghost use Rattle.message.specs.Views.{piece_meant};
 ghost use Rattle.store.specs.Calls.{is_whole};
 ghost use Rattle.recovery.specs.declared.marks.Mark.TheVariants.{Stale};
-ghost use Rattle.recovery.specs.declared.marks.Pending.TheVariants.{Closed};
 ghost use Rattle.recovery.specs.Reading.{opens, adds};
 ghost use Rattle.recovery.specs.Groups.{idle, wanted, adopted, decided, event_step};
 ghost use Rattle.recovery.specs.Log.{decided_log, event_log};
@@ -17,7 +16,7 @@ use crate::renewal::renew;
 use crate::subscription::Subscription;
 use message::message::Piece;
 use message::values::HeaderFields;
-use recovery::marks::{Group, Mark, Pending};
+use recovery::marks::{Group, Mark};
 use settling::marks::Event;
 use store::store::Store;
 
@@ -88,14 +87,14 @@ fn decide<S: Store>(
     requires { (slot ≡ slot_in (watch_of sub.now.watch) g.security) × ((slot < length (watch_of sub.now.watch)) × (44800 ≤ length shelf.now)) }
     ensures state { state_in (S.kind (S.setup store.old)) sub.now plain.new (S.model store.new) shelf.now ≡ decided (S.kind (S.setup store.old)) (opening_of sub.now) g (state_in (S.kind (S.setup store.old)) sub.now plain.old (S.model store.old) shelf.now) }
     ensures log { length (decided_log (S.kind (S.setup store.old)) (opening_of sub.now) g (state_in (S.kind (S.setup store.old)) sub.now plain.old (S.model store.old) shelf.now)) ≡ bit result }
-    ensures closed { result ≡ true → plain.new.pending ≡ Closed }
+    ensures closed { result ≡ true → plain.new.pending ≡ None }
     ensures attends { attended (watch_of sub.now.watch) plain.old.pending ≡ true → attended (watch_of sub.now.watch) plain.new.pending ≡ true }
     ensures stays { S.setup store.new ≡ S.setup store.old }
 {
     if !store.whole() {
         return false;
     }
-    plain.pending = Pending::Closed;
+    plain.pending = None;
     adopt(plain, store, sub, shelf, slot, g)
 }
 
@@ -120,11 +119,11 @@ pub(crate) fn begin<S: Store>(
                 security: i,
                 last: h.last,
             };
-            plain.pending = Pending::Open(g);
+            plain.pending = Some(g);
             return decide(plain, store, sub, shelf, slot, g);
         }
     }
-    plain.pending = Pending::Closed;
+    plain.pending = None;
     false
 }
 
@@ -140,26 +139,22 @@ pub(crate) fn grow<S: Store>(
     requires { (44800 ≤ length shelf.now) × (attended (watch_of sub.now.watch) plain.old.pending ≡ true) }
     ensures state { state_in (S.kind (S.setup store.old)) sub.now plain.new (S.model store.new) shelf.now ≡ event_step (S.kind (S.setup store.old)) (opening_of sub.now) (adds i (piece_meant p.now)) (state_in (S.kind (S.setup store.old)) sub.now plain.old (S.model store.old) shelf.now) }
     ensures log { length (event_log (S.kind (S.setup store.old)) (opening_of sub.now) (adds i (piece_meant p.now)) (state_in (S.kind (S.setup store.old)) sub.now plain.old (S.model store.old) shelf.now)) ≡ bit result }
-    ensures closed { result ≡ true → plain.new.pending ≡ Closed }
+    ensures closed { result ≡ true → plain.new.pending ≡ None }
     ensures attends { attended (watch_of sub.now.watch) plain.new.pending ≡ true }
     ensures stays { S.setup store.new ≡ S.setup store.old }
 {
-    match plain.pending {
-        Pending::Closed => false,
-        Pending::Open(g) => {
-            if i != g.security {
-                return false;
-            }
-            let Some(slot) = sub.watch.slot(i) else {
-                return unreachable();
-            };
-            match store.add(p) {
-                Ok(()) => decide(plain, store, sub, shelf, slot, g),
-                Err(_) => {
-                    plain.pending = Pending::Closed;
-                    false
-                }
-            }
-        }
+    let Some(g) = plain.pending else {
+        return false;
+    };
+    if i != g.security {
+        return false;
     }
+    let Some(slot) = sub.watch.slot(i) else {
+        return unreachable();
+    };
+    if store.add(p).is_err() {
+        plain.pending = None;
+        return false;
+    }
+    decide(plain, store, sub, shelf, slot, g)
 }

@@ -17,7 +17,6 @@ use message::message::{Message, Piece};
 use message::values::HeaderFields;
 use packet::checked::Checked;
 use packet::group::entries_of;
-use recovery::marks::Pending;
 use store::store::Store;
 
 // A header, of which an instrument or the fields may be missing; whether its group was adopted.
@@ -35,18 +34,12 @@ fn open_group<S: Store>(
     ensures attends { attended (watch_of sub.now.watch) plain.new.pending ≡ true }
     ensures stays { S.setup store.new ≡ S.setup store.old }
 {
-    match i {
+    match i.zip(h) {
+        Some((id, fields)) => begin(plain, store, sub, shelf, id, fields),
         None => {
-            plain.pending = Pending::Closed;
+            plain.pending = None;
             false
         }
-        Some(id) => match h {
-            None => {
-                plain.pending = Pending::Closed;
-                false
-            }
-            Some(fields) => begin(plain, store, sub, shelf, id, fields),
-        },
     }
 }
 
@@ -107,11 +100,11 @@ fn tell<S: Store>(
             Some(i) => grow_all(plain, store, sub, shelf, i, l, part),
             None => false,
         },
-        Message::Order(_, _) => false,
-        Message::Delete(_, _) => false,
-        Message::Mass(_, _) => false,
-        Message::Empty(_, _) => false,
-        Message::Other(_) => false,
+        Message::Order(_, _)
+        | Message::Delete(_, _)
+        | Message::Mass(_, _)
+        | Message::Empty(_, _)
+        | Message::Other(_) => false,
     }
 }
 

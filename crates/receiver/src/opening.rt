@@ -1,8 +1,6 @@
-ghost use Rattle.std.specs.Prelude.{◌≡◌, ℕ, ◌≤◌, false, List, length, if◌then◌else◌, Ok, nat_lt, slice_index_or};
+ghost use Rattle.std.specs.Prelude.{◌≡◌, ℕ, ◌≤◌, false, List, length, None, if◌then◌else◌, Ok, nat_lt, slice_index_or};
 ghost use Rattle.store.specs.Calls.{value_at};
 ghost use Rattle.recovery.specs.declared.marks.Mark.TheVariants.{Stale, AsOf};
-ghost use Rattle.recovery.specs.declared.marks.Followed.TheVariants.{Nothing};
-ghost use Rattle.recovery.specs.declared.marks.Pending.TheVariants.{Closed};
 ghost use Rattle.recovery.specs.Answers.{opening_check};
 ghost use Rattle.recovery.specs.State.{rest_of, opened};
 ghost use Rattle.receiver.specs.Standings.{opening_of, state_in};
@@ -11,7 +9,7 @@ use crate::plain::Plain;
 use crate::receiver::Receiver;
 use crate::subscription::Subscription;
 use layout::sheet::Sheet;
-use recovery::marks::{Followed, Mark, Pending};
+use recovery::marks::Mark;
 use settling::places::Places;
 use settling::table::Marks;
 use settling::watch::Watch;
@@ -23,9 +21,7 @@ fn fresh_marks(n: usize) -> Marks
     ensures { (q : ℕ) → slice_index_or result.at q Stale ≡ (if nat_lt q n then AsOf 0 else Stale) }
 {
     let mut at = [Mark::Stale; 64];
-    for p in 0..n {
-        at[p] = Mark::AsOf(0);
-    }
+    at[..n].fill(Mark::AsOf(0));
     Marks { at }
 }
 
@@ -44,14 +40,14 @@ fn freshen_all<S: Store>(store: &mut S, n: usize)
 fn new_plain(n: usize) -> Plain
     requires { n ≤ 64 }
     ensures marks { (q : ℕ) → slice_index_or result.marks.at q Stale ≡ (if nat_lt q n then AsOf 0 else Stale) }
-    ensures others { (result.places.heard ≡ 0) × (result.joined ≡ false) × (result.followed ≡ Nothing) × (result.pending ≡ Closed) }
+    ensures others { (result.places.heard ≡ 0) × (result.joined ≡ false) × (result.followed ≡ None) × (result.pending ≡ None) }
 {
     Plain {
         places: Places::empty(),
         marks: fresh_marks(n),
         joined: false,
-        followed: Followed::Nothing,
-        pending: Pending::Closed,
+        followed: None,
+        pending: None,
     }
 }
 

@@ -1,4 +1,4 @@
-use recovery::marks::{Followed, Pending};
+use recovery::marks::{Followed, Group};
 use settling::places::Places;
 use settling::table::Marks;
 
@@ -9,6 +9,6 @@ pub struct Plain {
     pub places: Places,
     pub marks: Marks,
     pub joined: bool,
-    pub followed: Followed,
-    pub pending: Pending,
+    pub followed: Option<Followed>,
+    pub pending: Option<Group>,
 }

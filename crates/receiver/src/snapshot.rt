@@ -24,7 +24,7 @@ impl Receiver {
         ensures stays { S.setup store.new ≡ S.setup store.old }
     {
         let h = self.sub.admit(&self.plain, join.own, shelf.len(), bytes)?;
-        if self.plain.again(h.version, h.number) {
+        if self.plain.again(h) {
             return Ok(Snapshot::Repeat);
         }
         self.plain.note(h);

@@ -8,9 +8,7 @@ use Rattle.store.specs.Law.{Fills}
 use Rattle.recovery.specs.declared.marks.Mark.{Mark}
 use Rattle.recovery.specs.declared.marks.Mark.TheVariants.{Stale, AsOf}
 use Rattle.recovery.specs.declared.marks.Followed.{Followed}
-use Rattle.recovery.specs.declared.marks.Followed.TheVariants.{Nothing, Upto}
-use Rattle.recovery.specs.declared.marks.Pending.{Pending}
-use Rattle.recovery.specs.declared.marks.Pending.TheVariants.{Closed, Open}
+use Rattle.recovery.specs.declared.marks.Group.{Group}
 use Rattle.recovery.specs.Shelf.{Found, absent, spoilt, intact, is_there, kept}
 use Rattle.recovery.specs.Reading.{Event}
 use Rattle.recovery.specs.Books.{Book, book, kind_at, settle}
@@ -24,9 +22,9 @@ use Rattle.recovery.specs.Reach.{left, news, caught, judged}
 use Rattle.recovery.proofs.Basics.{cond_two, by_test, ltb_not}
 use Rattle.recovery.proofs.Books.{extent_of, GoodFound, Both, settle_ok}
 
-abbrev pub place_of : Followed → Option Place
-place_of Nothing = None
-place_of (Upto loop last) = Some (record { loop = loop; last = last })
+abbrev pub place_of : Option Followed → Option Place
+place_of None = None
+place_of (Some f) = Some (record { loop = f.loop_number; last = f.last })
 
 -- the instrument at the slot of i is i
 id_slot : (xs : List ℕ) (i : ℕ) → ltb (slot_in xs i) (length xs) ≡ true → get_or xs (slot_in xs i) 0 ≡ i
@@ -78,11 +76,11 @@ module _ {V O : Type 0} (K : Kind V O) (P : Publisher) (Image : HeaderFields →
   GoodOpen fs p rest = (watched o p.of ≡ true) × (rest.owed ≡ left K o p.header p.pieces)
       × Fills K rest.staged rest.owed (pieces_of p.of fs) (value_at K P p.of p.header.last)
 
-  abbrev pub GoodGroup : List Event → Pending → Option Parts → Rest V O → Type 0
-  GoodGroup fs Closed None rest = Unit {0}
-  GoodGroup fs Closed (Some p) rest = ⊥
-  GoodGroup fs (Open g) None rest = ⊥
-  GoodGroup fs (Open g) (Some p) rest = (g ≡ group_of p.of p.header) × GoodOpen fs p rest
+  abbrev pub GoodGroup : List Event → Option Group → Option Parts → Rest V O → Type 0
+  GoodGroup fs None None rest = Unit {0}
+  GoodGroup fs None (Some p) rest = ⊥
+  GoodGroup fs (Some g) None rest = ⊥
+  GoodGroup fs (Some g) (Some p) rest = (g ≡ group_of p.of p.header) × GoodOpen fs p rest
 
   abbrev pub GoodShelf : (ℕ → Found) → Type 0
   GoodShelf shelf = (k : ℕ) → GoodFound K P Image honest k (shelf k)
@@ -91,7 +89,7 @@ module _ {V O : Type 0} (K : Kind V O) (P : Publisher) (Image : HeaderFields →
   Beside i x e = Both K P Image honest i x e
 
   -- all but the group, in the loop l
-  pub record Base (l : Followed) (s : State V O) (r : Reach) : Type 0 where
+  pub record Base (l : Option Followed) (s : State V O) (r : Reach) : Type 0 where
     pub heard : r.heard ≡ s.plain.heard
     pub there : (k : ℕ) → r.there k ≡ is_there (s.plain.shelf k)
     pub joined : r.joined ≡ s.plain.joined
@@ -102,12 +100,12 @@ module _ {V O : Type 0} (K : Kind V O) (P : Publisher) (Image : HeaderFields →
     pub books : (i : ℕ) → watched o i ≡ true → Beside i (s.books (slot_of o i)) (r.extent i)
 
   -- what holds between the two, with fs yet to come in the loop l
-  pub record Rel (l : Followed) (fs : List Event) (s : State V O) (r : Reach) : Type 0 where
+  pub record Rel (l : Option Followed) (fs : List Event) (s : State V O) (r : Reach) : Type 0 where
     pub base : Base l s r
     pub group : GoodGroup fs s.plain.pending r.parts s.rest
 
   -- heard becomes h and this is on the shelf
-  pub renew_ok : (l : Followed) (fs : List Event) (s : State V O) (h h' : ℕ) (shelf : ℕ → Found) (there : ℕ → Bool) (extent : ℕ → Extent) (r : Reach)
+  pub renew_ok : (l : Option Followed) (fs : List Event) (s : State V O) (h h' : ℕ) (shelf : ℕ → Found) (there : ℕ → Bool) (extent : ℕ → Extent) (r : Reach)
       → h' ≡ h → GoodShelf shelf → ((k : ℕ) → near h there k ≡ is_there (shelf k)) → length o.watch ≤ s.rest.room
       → ((i : ℕ) → watched o i ≡ true → Beside i (s.books (slot_of o i)) (extent i))
       → r.joined ≡ s.plain.joined → s.plain.followed ≡ l → r.place ≡ place_of l → GoodGroup fs s.plain.pending r.parts s.rest
@@ -129,17 +127,17 @@ module _ {V O : Type 0} (K : Kind V O) (P : Publisher) (Image : HeaderFields →
   fills-whole x w [] v f t = f.1
   fills-whole x w (p ∷ ps) v f t = f.0 t
 
-  pub base_group : (l : Followed) (s : State V O) (r : Reach) (g : Pending) (p : Option Parts) → Base l s r → Base l (with_pending g s) (with_parts p r)
+  pub base_group : (l : Option Followed) (s : State V O) (r : Reach) (g : Option Group) (p : Option Parts) → Base l s r → Base l (with_pending g s) (with_parts p r)
   base_group l s r g p b = record { heard = b.heard; there = b.there; joined = b.joined; follow = b.follow; place = b.place; room = b.room; shelf = b.shelf; books = b.books }
 
-  module _ (l : Followed) (fs : List Event) (p : Parts) (s : State V O) (r : Reach) (b : Base l s r) (g : GoodOpen fs p s.rest) where
+  module _ (l : Option Followed) (fs : List Event) (p : Parts) (s : State V O) (r : Reach) (b : Base l s r) (g : GoodOpen fs p s.rest) where
     pub wanted-news : wanted K o (group_of p.of p.header) s ≡ news K o p r
     wanted-news =
         let w = (b.books p.of g.0).1 in
         rw (lt-ltb (slot_of o p.of) s.rest.room (omega (arith, ltb-true _ _ g.0, b.room)), b.heard, ← w) (news_test (s.books (slot_of o p.of)).mark p.header.last s.plain.heard)
 
-    adopts : K.whole s.rest.owed ≡ true → Rel l fs (adopted K o (group_of p.of p.header) (with_pending Closed s)) (caught K o p (with_parts None r))
-    adopts t = renew_ok l fs (with_book (slot_of o p.of) (book (AsOf p.header.last) s.rest.staged) (with_pending Closed s))
+    adopts : K.whole s.rest.owed ≡ true → Rel l fs (adopted K o (group_of p.of p.header) (with_pending None s)) (caught K o p (with_parts None r))
+    adopts t = renew_ok l fs (with_book (slot_of o p.of) (book (AsOf p.header.last) s.rest.staged) (with_pending None s))
         (max s.plain.heard p.header.last) (max r.heard p.header.last) (kept (max s.plain.heard p.header.last) s.plain.shelf) r.there
         (λ i. cond (eqb i p.of) (upto p.header.last) (r.extent i)) (with_parts None r)
         (ap (λ h. max h p.header.last) b.heard) (λ k. keeps k (s.plain.shelf k) (b.shelf k) (leb (k + 32) (max s.plain.heard p.header.last)))
@@ -155,9 +153,9 @@ module _ {V O : Type 0} (K : Kind V O) (P : Publisher) (Image : HeaderFields →
             (subst (λ j. s.rest.staged ≡ value_at K P j p.header.last) (sym same) (fills-whole _ _ _ _ g.2 t), refl))
             (λ _. b.books i w)
 
-    pub decide_ok : s.plain.pending ≡ Open (group_of p.of p.header) → Rel l fs (decided K o (group_of p.of p.header) s) (judged K o p r)
+    pub decide_ok : s.plain.pending ≡ Some (group_of p.of p.header) → Rel l fs (decided K o (group_of p.of p.header) s) (judged K o p r)
     decide_ok e = cond_two (Rel l fs) (K.whole s.rest.owed) _ (ap K.whole g.1) _ _ _ _
         (λ t. cond_two (Rel l fs) (wanted K o (group_of p.of p.header) s) (news K o p r) wanted-news _ _ _ _
         (λ _. adopts t)
-        (λ _. record { base = base_group l s r Closed None b; group = tt }))
+        (λ _. record { base = base_group l s r None None b; group = tt }))
         (λ _. record { base = record { heard = b.heard; there = b.there; joined = b.joined; follow = b.follow; place = b.place; room = b.room; shelf = b.shelf; books = b.books }; group = rw e (refl, g) })

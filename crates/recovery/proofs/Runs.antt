@@ -1,5 +1,5 @@
 -- Every call keeps receiver and reach together, so every run does.
-use Rattle.std.proofs.Common.{◌≡◌, ℕ, zero, suc, ◌+◌, ◌<◌, ◌≤◌, max, Bool, true, false, cond, ◌&&◌, ◌||◌, eqb, ltb, leb, List, [], ◌∷◌, ◌++◌, length, drop, is_ok, None, Option, sym, refl, ap, ◌∙◌, subst, arith}
+use Rattle.std.proofs.Common.{◌≡◌, ℕ, zero, suc, ◌+◌, ◌<◌, ◌≤◌, max, Bool, true, false, cond, ◌&&◌, ◌||◌, eqb, ltb, leb, List, [], ◌∷◌, ◌++◌, length, drop, is_ok, Some, None, Option, sym, refl, ap, ◌∙◌, subst, arith}
 use Rattle.std.proofs.lemmas.Bool.{eqb-true, lt-ltb, ltb-true, and_parts, false≢true}
 use Rattle.message.specs.declared.values.HeaderFields.{HeaderFields}
 use Rattle.message.specs.Meaning.{Msg, Part}
@@ -7,16 +7,14 @@ use Rattle.packet.specs.Rules.{packet_check, packet_head, messages}
 use Rattle.store.specs.Kind.{Kind, Model}
 use Rattle.store.specs.Law.{ImageLaw}
 use Rattle.recovery.specs.declared.marks.Followed.{Followed}
-use Rattle.recovery.specs.declared.marks.Followed.TheVariants.{Nothing, Upto}
-use Rattle.recovery.specs.declared.marks.Pending.{Pending}
-use Rattle.recovery.specs.declared.marks.Pending.TheVariants.{Closed}
+use Rattle.recovery.specs.declared.marks.Group.{Group}
 use Rattle.recovery.specs.Shelf.{Found, absent, is_there, reading, laid}
 use Rattle.recovery.specs.Reading.{Event}
 use Rattle.recovery.specs.State.{Opening, State, opened}
 use Rattle.recovery.specs.Answers.{is_next}
 use Rattle.recovery.specs.Incremental.{received}
 use Rattle.recovery.specs.Groups.{message_steps}
-use Rattle.recovery.specs.Steps.{noted, adoptions}
+use Rattle.recovery.specs.Steps.{followed_to, noted, adoptions}
 use Rattle.recovery.specs.Calls.{Call, incremental, join, leave, snapshot, question, taken, step, run}
 use Rattle.recovery.specs.Publisher.{Publisher, value_at, Honest, Imaged, Nth, telling, looping, Brings, Fed}
 use Rattle.recovery.specs.Extents.{Parts, Reach, untouched, near, moved}
@@ -39,13 +37,13 @@ module _ {V O : Type 0} (K : Kind V O) (P : Publisher) (Image : HeaderFields →
   value_zero i = refl
 
   -- what is yet to come in the loop that is followed
-  abbrev pub future : Followed → List Event
-  future Nothing = []
-  future (Upto l k) = looping (drop k (P.loops l))
+  abbrev pub future : Option Followed → List Event
+  future None = []
+  future (Some f) = looping (drop f.last (P.loops f.loop_number))
 
   -- what holds between a receiver and its reach
   pub record Kin (s : State V O) (r : Reach) : Type 0 where
-    pub loop : Followed
+    pub loop : Option Followed
     pub rel : Rel K P Image honest o loop (future loop) s r
 
   -- a packet that is taken has kept the rules, is recent, and is the publisher's
@@ -65,7 +63,7 @@ module _ {V O : Type 0} (K : Kind V O) (P : Publisher) (Image : HeaderFields →
         (λ e. let same : k ≡ (packet_head bytes).number = eqb-true _ _ e in rw (e, ok, lt-ltb h (k + 32) (omega (arith, same, lt))))
         (λ e. rw e (kept_agrees h shelf there agree k))
 
-    received_ok : (l : Followed) (fs : List Event) (s : State V O) (r : Reach) → r.heard < (packet_head bytes).number + 32 → Rel K P Image honest o l fs s r
+    received_ok : (l : Option Followed) (fs : List Event) (s : State V O) (r : Reach) → r.heard < (packet_head bytes).number + 32 → Rel K P Image honest o l fs s r
         → Rel K P Image honest o l fs (received K o bytes s) (moved (max r.heard (packet_head bytes).number) (λ k. eqb k (packet_head bytes).number || r.there k) r.extent r)
     received_ok l fs s r lt rel =
         let b = rel.base in let h = b.heard in
@@ -90,12 +88,12 @@ module _ {V O : Type 0} (K : Kind V O) (P : Publisher) (Image : HeaderFields →
     unfolding looping
     imaged-drop zero rows im = im
     imaged-drop (suc k) [] im = im
-    imaged-drop (suc k) (y ∷ ys) im = imaged-drop k ys (imaged-after K P Image honest o law Nothing (telling y) (looping ys) im)
+    imaged-drop (suc k) (y ∷ ys) im = imaged-drop k ys (imaged-after K P Image honest o law None (telling y) (looping ys) im)
 
     -- a snapshot packet's reading begins well
-    module _ (bytes : List ℕ) (b : Nth (P.loops (packet_head bytes).version) (packet_head bytes).number (messages o.sheet bytes)) (l : Followed) (s : State V O) (r : Reach) (rel : Rel K P Image honest o l (future l) s r) where
-      abbrev here : Followed
-      here = Upto (packet_head bytes).version (packet_head bytes).number
+    module _ (bytes : List ℕ) (b : Nth (P.loops (packet_head bytes).version) (packet_head bytes).number (messages o.sheet bytes)) (l : Option Followed) (s : State V O) (r : Reach) (rel : Rel K P Image honest o l (future l) s r) where
+      abbrev here : Option Followed
+      here = Some (followed_to (packet_head bytes).version (packet_head bytes).number)
 
       abbrev row : List Event
       row = telling (messages o.sheet bytes)
@@ -106,16 +104,16 @@ module _ {V O : Type 0} (K : Kind V O) (P : Publisher) (Image : HeaderFields →
       start-imaged : Imaged K P Image (row ++ future here)
       start-imaged = rw (← point.2) (imaged-drop point.0 (P.loops (packet_head bytes).version) (honest.imaged (packet_head bytes).version))
 
-      carried : (f : Followed) (x : Pending) (y : Option Parts) → GoodGroup K P Image honest o (future f) x y s.rest → (c : Bool) → is_next f (packet_head bytes).version (packet_head bytes).number ≡ c
-          → GoodGroup K P Image honest o (row ++ future here) (cond c x Closed) (cond c y None) s.rest
+      carried : (f : Option Followed) (x : Option Group) (y : Option Parts) → GoodGroup K P Image honest o (future f) x y s.rest → (c : Bool) → is_next f (packet_head bytes).version (packet_head bytes).number ≡ c
+          → GoodGroup K P Image honest o (row ++ future here) (cond c x None) (cond c y None) s.rest
       carried f x y g false t = tt
-      carried Nothing x y g true t = absurd (false≢true t)
-      carried (Upto l' k') x y g true t =
-          let a = and_parts (eqb (packet_head bytes).version l') (eqb (packet_head bytes).number (k' + 1)) t in
-          let el : (packet_head bytes).version ≡ l' = eqb-true _ l' a.0 in
-          let en : (packet_head bytes).number ≡ k' + 1 = eqb-true _ (k' + 1) a.1 in
-          let ek : point.0 ≡ k' = omega (arith, point.1, en) in
-          let e : looping (drop k' (P.loops l')) ≡ row ++ future here = ap (λ j. looping (drop k' (P.loops j))) (sym el) ∙ ap (λ j. looping (drop j (P.loops (packet_head bytes).version))) (sym ek) ∙ point.2 in
+      carried None x y g true t = absurd (false≢true t)
+      carried (Some loop) x y g true t =
+          let a = and_parts (eqb (packet_head bytes).version loop.loop_number) (eqb (packet_head bytes).number (loop.last + 1)) t in
+          let el : (packet_head bytes).version ≡ loop.loop_number = eqb-true _ loop.loop_number a.0 in
+          let en : (packet_head bytes).number ≡ loop.last + 1 = eqb-true _ (loop.last + 1) a.1 in
+          let ek : point.0 ≡ loop.last = omega (arith, point.1, en) in
+          let e : looping (drop loop.last (P.loops loop.loop_number)) ≡ row ++ future here = ap (λ j. looping (drop loop.last (P.loops j))) (sym el) ∙ ap (λ j. looping (drop j (P.loops (packet_head bytes).version))) (sym ek) ∙ point.2 in
           subst (λ fs. GoodGroup K P Image honest o fs x y s.rest) e g
 
       start : Rel K P Image honest o here (row ++ future here) (noted (packet_head bytes) s) (placed K o bytes r)
@@ -168,7 +166,7 @@ module _ {V O : Type 0} (K : Kind V O) (P : Publisher) (Image : HeaderFields →
           subst (λ (x : State V O). Kin x (reach_step K o r (snapshot j room bytes)))
           (sym (snapshot_verdict (message_steps K o (messages o.sheet bytes) (noted (packet_head bytes) s)) s o s.plain r j room bytes kin.rel.base.joined place_is))
           (cond_two Kin (takes_snapshot o r j room bytes) (takes_snapshot o r j room bytes) refl _ _ _ _
-          (λ t. record { loop = Upto (packet_head bytes).version (packet_head bytes).number; rel = snapshot_ok bytes (fed (snapshot-taken j room bytes ∙ t)) kin.loop s r kin.rel })
+          (λ t. record { loop = Some (followed_to (packet_head bytes).version (packet_head bytes).number); rel = snapshot_ok bytes (fed (snapshot-taken j room bytes ∙ t)) kin.loop s r kin.rel })
           (λ _. kin))
 
       join_ok : Kin (step K o s join) (reach_step K o r join)
@@ -186,7 +184,7 @@ module _ {V O : Type 0} (K : Kind V O) (P : Publisher) (Image : HeaderFields →
       leave_ok j = subst (λ (x : State V O). Kin x (reach_step K o r (leave j))) (sym (leave_verdict _ s (s.plain.joined && eqb j o.own)))
           (cond_two Kin (s.plain.joined && eqb j o.own) (r.joined && eqb j o.own) (ap (λ b. b && eqb j o.own) (sym kin.rel.base.joined)) _ _ _ _
           (λ _. let b = kin.rel.base in record {
-            loop = Nothing;
+            loop = None;
             rel = record {
               base = record { heard = b.heard; there = b.there; joined = refl; follow = refl; place = refl; room = b.room; shelf = b.shelf; books = b.books };
               group = tt;
@@ -211,7 +209,7 @@ module _ {V O : Type 0} (K : Kind V O) (P : Publisher) (Image : HeaderFields →
 
     pub opened_ok : (store : Model V O) → length o.watch ≤ length store.slots → Kin (opened K o store) (untouched o)
     opened_ok store le = record {
-      loop = Nothing;
+      loop = None;
       rel = record {
         base = record { heard = refl; there = λ k. refl; joined = refl; follow = refl; place = refl; room = le; shelf = λ k. tt; books = λ i w. rw (w) (value_zero i, refl) };
         group = tt;

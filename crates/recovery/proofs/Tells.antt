@@ -6,8 +6,6 @@ use Rattle.store.specs.Kind.{Kind}
 use Rattle.store.specs.Law.{Fills, ImageLaw}
 use Rattle.recovery.specs.declared.marks.Followed.{Followed}
 use Rattle.recovery.specs.declared.marks.Group.{Group}
-use Rattle.recovery.specs.declared.marks.Pending.{Pending}
-use Rattle.recovery.specs.declared.marks.Pending.TheVariants.{Closed, Open}
 use Rattle.recovery.specs.Reading.{Event, opens, closes, adds}
 use Rattle.recovery.specs.State.{Opening, watched, State}
 use Rattle.recovery.specs.Updates.{with_pending, with_staged, on_pending}
@@ -23,7 +21,7 @@ and_true : (b : Bool) → (b && true) ≡ b
 and_true true = refl
 and_true false = refl
 
-module _ {V O : Type 0} (K : Kind V O) (P : Publisher) (Image : HeaderFields → List Part → V → Type 0) (honest : Honest K P Image) (o : Opening) (law : ImageLaw K Image) (l : Followed) where
+module _ {V O : Type 0} (K : Kind V O) (P : Publisher) (Image : HeaderFields → List Part → V → Type 0) (honest : Honest K P Image) (o : Opening) (law : ImageLaw K Image) (l : Option Followed) where
   abbrev R : List Event → State V O → Reach → Type 0
   R fs s r = Rel K P Image honest o l fs s r
 
@@ -43,18 +41,18 @@ module _ {V O : Type 0} (K : Kind V O) (P : Publisher) (Image : HeaderFields →
       go true c = refl
       go false c = refl
 
-  decided-alike : (fs : List Event) (p : Parts) (s : State V O) (r : Reach) → B s r → GoodOpen K P Image honest o fs p s.rest → s.plain.pending ≡ Open (group_of p.of p.header)
+  decided-alike : (fs : List Event) (p : Parts) (s : State V O) (r : Reach) → B s r → GoodOpen K P Image honest o fs p s.rest → s.plain.pending ≡ Some (group_of p.of p.header)
       → Alike fs (decided K o (group_of p.of p.header) s) (decided_log K o (group_of p.of p.header) s) (judged K o p r) (judged_log K o p r)
   decided-alike fs p s r b g e = record { rel = decide_ok K P Image honest o l fs p s r b g e; logs = log_ok fs p s r b g }
 
-  closed_alike : (fs : List Event) (s : State V O) (r : Reach) → B s r → Alike fs (with_pending Closed s) [] (with_parts None r) []
-  closed_alike fs s r b = record { rel = record { base = base_group K P Image honest o l s r Closed None b; group = tt }; logs = refl }
+  closed_alike : (fs : List Event) (s : State V O) (r : Reach) → B s r → Alike fs (with_pending None s) [] (with_parts None r) []
+  closed_alike fs s r b = record { rel = record { base = base_group K P Image honest o l s r None None b; group = tt }; logs = refl }
 
-  staged_base : (s : State V O) (r : Reach) (g : Pending) (v : V) (w : O) → B s r → B (with_pending g (with_staged v w s)) r
+  staged_base : (s : State V O) (r : Reach) (g : Option Group) (v : V) (w : O) → B s r → B (with_pending g (with_staged v w s)) r
   staged_base s r g v w b = record { heard = b.heard; there = b.there; joined = b.joined; follow = b.follow; place = b.place; room = b.room; shelf = b.shelf; books = b.books }
 
   -- a piece, where this group is open
-  added : (i : ℕ) (p : Part) (fs : List Event) (s : State V O) (r : Reach) (q : Parts) → B s r → s.plain.pending ≡ Open (group_of q.of q.header) → r.parts ≡ Some q
+  added : (i : ℕ) (p : Part) (fs : List Event) (s : State V O) (r : Reach) (q : Parts) → B s r → s.plain.pending ≡ Some (group_of q.of q.header) → r.parts ≡ Some q
       → GoodOpen K P Image honest o (adds i p ∷ fs) q s.rest
       → Alike fs (grown K o i p (group_of q.of q.header) s)
       (cond (eqb i q.of && K.takes s.rest.staged s.rest.owed p) (decided_log K o (group_of q.of q.header) (with_staged (K.put s.rest.staged s.rest.owed p) (K.less s.rest.owed p) s)) [])
@@ -70,7 +68,7 @@ module _ {V O : Type 0} (K : Kind V O) (P : Publisher) (Image : HeaderFields →
       s' = with_staged (K.put s.rest.staged s.rest.owed p) (K.less s.rest.owed p) s
 
       go : (c : Bool) → Fills K s.rest.staged s.rest.owed (cond c (p ∷ pieces_of q.of fs) (pieces_of q.of fs)) (value_at K P q.of q.header.last)
-          → Alike fs (cond c (cond (K.takes s.rest.staged s.rest.owed p) (decided K o (group_of q.of q.header) s') (with_pending Closed s)) s)
+          → Alike fs (cond c (cond (K.takes s.rest.staged s.rest.owed p) (decided K o (group_of q.of q.header) s') (with_pending None s)) s)
           (cond (c && K.takes s.rest.staged s.rest.owed p) (decided_log K o (group_of q.of q.header) s') [])
           (cond c (judged K o q' r) r) (cond c (judged_log K o q' r) [])
       go true f = rw f.1 (decided-alike fs q' s' r
@@ -90,28 +88,28 @@ module _ {V O : Type 0} (K : Kind V O) (P : Publisher) (Image : HeaderFields →
       q = record { of = i; header = h; pieces = [] }
 
       s' : State V O
-      s' = with_pending (Open (group_of i h)) (with_staged (K.begins h) (K.owes h) s)
+      s' = with_pending (Some (group_of i h)) (with_staged (K.begins h) (K.owes h) s)
 
       go : (b : Bool) → watched o i ≡ b → Fills K (K.begins h) (K.owes h) (pieces_of i fs) (value_at K P i h.last)
-          → Alike fs (cond b (begun K o i h s) (with_pending Closed s)) (cond b (decided_log K o (group_of i h) (with_staged (K.begins h) (K.owes h) s)) []) (cond b (judged K o q r) (with_parts None r)) (cond b (judged_log K o q r) [])
-      go true w f = decided-alike fs q s' r (staged_base s r (Open (group_of i h)) (K.begins h) (K.owes h) rel.base) (w, refl, f) refl
+          → Alike fs (cond b (begun K o i h s) (with_pending None s)) (cond b (decided_log K o (group_of i h) (with_staged (K.begins h) (K.owes h) s)) []) (cond b (judged K o q r) (with_parts None r)) (cond b (judged_log K o q r) [])
+      go true w f = decided-alike fs q s' r (staged_base s r (Some (group_of i h)) (K.begins h) (K.owes h) rel.base) (w, refl, f) refl
       go false w f = closed_alike fs s r rel.base
   event_ok closes fs s r rel im = closed_alike fs s r rel.base
   event_ok (adds i p) fs s r rel im = go s.plain.pending r.parts refl refl rel.group
     where
-      go : (x : Pending) (y : Option Parts) → s.plain.pending ≡ x → r.parts ≡ y → GoodGroup K P Image honest o (adds i p ∷ fs) x y s.rest
+      go : (x : Option Group) (y : Option Parts) → s.plain.pending ≡ x → r.parts ≡ y → GoodGroup K P Image honest o (adds i p ∷ fs) x y s.rest
           → Alike fs (on_pending x s (λ g. grown K o i p g s))
           (on_pending x [] (λ g. cond (eqb i g.security && K.takes s.rest.staged s.rest.owed p) (decided_log K o g (with_staged (K.put s.rest.staged s.rest.owed p) (K.less s.rest.owed p) s)) []))
           (of_parts y r (λ g. cond (eqb i g.of) (judged K o (record { of = g.of; header = g.header; pieces = p ∷ g.pieces }) r) r))
           (of_parts y [] (λ g. cond (eqb i g.of) (judged_log K o (record { of = g.of; header = g.header; pieces = p ∷ g.pieces }) r) []))
-      go Closed None ex ey g = record { rel = record { base = rel.base; group = rw (ex, ey) tt }; logs = refl }
-      go Closed (Some q) ex ey g = absurd g
-      go (Open g₀) None ex ey g = absurd g
-      go (Open g₀) (Some q) ex ey g = subst (λ (z : Group). Alike fs (grown K o i p z s)
+      go None None ex ey g = record { rel = record { base = rel.base; group = rw (ex, ey) tt }; logs = refl }
+      go None (Some q) ex ey g = absurd g
+      go (Some g₀) None ex ey g = absurd g
+      go (Some g₀) (Some q) ex ey g = subst (λ (z : Group). Alike fs (grown K o i p z s)
           (cond (eqb i z.security && K.takes s.rest.staged s.rest.owed p) (decided_log K o z (with_staged (K.put s.rest.staged s.rest.owed p) (K.less s.rest.owed p) s)) [])
           (cond (eqb i q.of) (judged K o (record { of = q.of; header = q.header; pieces = p ∷ q.pieces }) r) r)
           (cond (eqb i q.of) (judged_log K o (record { of = q.of; header = q.header; pieces = p ∷ q.pieces }) r) []))
-          (sym g.0) (added i p fs s r q rel.base (ex ∙ ap Open g.0) ey g.1)
+          (sym g.0) (added i p fs s r q rel.base (ex ∙ ap Some g.0) ey g.1)
 
   imaged_tail : (e : Event) (fs : List Event) → Imaged K P Image (e ∷ fs) → Imaged K P Image fs
   unfolding Imaged

@@ -1,12 +1,11 @@
 -- A call is taken by the receiver exactly when reach takes it.
-use Rattle.std.proofs.Common.{◌≡◌, ℕ, ◌+◌, Bool, true, false, cond, not, ◌&&◌, eqb, ltb, leb, List, is_ok, Ok, Err, Result, sym, refl, ap, ◌∙◌, ap₂, arith}
+use Rattle.std.proofs.Common.{◌≡◌, ℕ, ◌+◌, Bool, true, false, cond, not, ◌&&◌, eqb, ltb, leb, List, is_ok, Some, None, Option, Ok, Err, Result, sym, refl, ap, ◌∙◌, ap₂, arith}
 use Rattle.std.proofs.lemmas.Bool.{ltb-true, ltb-false, leb-true, leb-false, eqb-true, eqb-false, lt-ltb, le-ltb, lt-leb, le-leb}
 use Rattle.packet.specs.declared.fault.FrameFault.{FrameFault}
 use Rattle.packet.specs.Rules.{and_then, packet_check, packet_head}
 use Rattle.recovery.specs.declared.answers.Incremental.TheVariants.{Repeat, Taken}
 use Rattle.recovery.specs.declared.fault.StreamFault.TheVariants.{Channel, Version, Number, Late, Join, Shelf}
 use Rattle.recovery.specs.declared.marks.Followed.{Followed}
-use Rattle.recovery.specs.declared.marks.Followed.TheVariants.{Nothing, Upto}
 use Rattle.recovery.specs.Shelf.{is_there}
 use Rattle.recovery.specs.State.{Opening, Plain}
 use Rattle.recovery.specs.Answers.{refuses, framed, lawful_version, incremental_answer, snapshot_check, again, is_next}
@@ -59,13 +58,13 @@ snapshot_chain t s room true false (Ok u) true true true known = refl
 snapshot_chain t s room true false (Ok u) true true false true = refl
 snapshot_chain t s room true false (Ok u) true true false false = refl
 
-seen-again : (f : Followed) (l n : ℕ) → seen (place_of f) l n ≡ again f l n
-seen-again Nothing l n = refl
-seen-again (Upto a b) l n = refl
+seen-again : (f : Option Followed) (l n : ℕ) → seen (place_of f) l n ≡ again f l n
+seen-again None l n = refl
+seen-again (Some f) l n = refl
 
-pub due_next : (f : Followed) (l n : ℕ) → due (place_of f) l n ≡ is_next f l n
-due_next Nothing l n = refl
-due_next (Upto a b) l n = refl
+pub due_next : (f : Option Followed) (l n : ℕ) → due (place_of f) l n ≡ is_next f l n
+due_next None l n = refl
+due_next (Some f) l n = refl
 
 pub snapshot_verdict : {A : Type 0} (t s : A) (o : Opening) (p : Plain) (r : Reach) (j room : ℕ) (bytes : List ℕ) → r.joined ≡ p.joined → r.place ≡ place_of p.followed
     → when_ok (snapshot_check o p j room bytes) (cond (again p.followed (packet_head bytes).version (packet_head bytes).number) s t) s ≡ cond (takes_snapshot o r j room bytes) t s

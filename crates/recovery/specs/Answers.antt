@@ -1,5 +1,5 @@
 -- Which calls are refused, and why; what an accepted one answers, as far as no value matters.
-use Rattle.std.specs.Prelude.{ℕ, ◌+◌, Bool, false, cond, not, ◌&&◌, List, length, Ok, Err, Result, ◌==◌, nat_le, nat_lt}
+use Rattle.std.specs.Prelude.{ℕ, ◌+◌, Bool, false, cond, not, ◌&&◌, List, length, Some, None, Option, Ok, Err, Result, ◌==◌, nat_le, nat_lt}
 use Rattle.packet.specs.declared.fault.FrameFault.{FrameFault}
 use Rattle.packet.specs.declared.head.PacketHead.{PacketHead}
 use Rattle.packet.specs.Rules.{and_then, packet_check, packet_head}
@@ -12,7 +12,6 @@ use Rattle.recovery.specs.declared.fault.StreamFault.TheVariants.{Frame, Channel
 use Rattle.recovery.specs.declared.marks.Mark.{Mark}
 use Rattle.recovery.specs.declared.marks.Mark.TheVariants.{Stale, AsOf}
 use Rattle.recovery.specs.declared.marks.Followed.{Followed}
-use Rattle.recovery.specs.declared.marks.Followed.TheVariants.{Nothing, Upto}
 use Rattle.recovery.specs.Shelf.{is_there}
 use Rattle.recovery.specs.State.{Opening, watched, distinct, Plain}
 
@@ -75,14 +74,14 @@ snapshot_check o p j room bytes =
     and_then (present_join o p j) (λ _. and_then (bytes_check o room bytes) (λ _. snapshot_rules o (packet_head bytes)))
 
 -- packet s of the loop l has been taken already
-abbrev pub again : Followed → ℕ → ℕ → Bool
-again Nothing l s = false
-again (Upto loop last) l s = l == loop && nat_le s last
+abbrev pub again : Option Followed → ℕ → ℕ → Bool
+again None l s = false
+again (Some f) l s = l == f.loop_number && nat_le s f.last
 
 -- packet s of the loop l is the one that is due
-abbrev pub is_next : Followed → ℕ → ℕ → Bool
-is_next Nothing l s = false
-is_next (Upto loop last) l s = l == loop && s == last + 1
+abbrev pub is_next : Option Followed → ℕ → ℕ → Bool
+is_next None l s = false
+is_next (Some f) l s = l == f.loop_number && s == f.last + 1
 
 -- a book that is not stale is current at the highest packet heard, and recovering below it
 abbrev pub standing : ℕ → Mark → Standing

@@ -1,12 +1,11 @@
 -- How a snapshot's groups are opened, filled, decided and adopted.
-use Rattle.std.specs.Prelude.{ℕ, ◌+◌, max, Bool, cond, not, ◌&&◌, ◌||◌, List, [], ◌∷◌, ◌==◌, nat_le, nat_lt}
+use Rattle.std.specs.Prelude.{ℕ, ◌+◌, max, Bool, cond, not, ◌&&◌, ◌||◌, List, [], ◌∷◌, Some, None, ◌==◌, nat_le, nat_lt}
 use Rattle.message.specs.declared.values.HeaderFields.{HeaderFields}
 use Rattle.message.specs.Meaning.{Msg, Part}
 use Rattle.store.specs.Kind.{Kind}
 use Rattle.recovery.specs.declared.marks.Mark.{Mark}
 use Rattle.recovery.specs.declared.marks.Mark.TheVariants.{Stale, AsOf}
 use Rattle.recovery.specs.declared.marks.Group.{Group}
-use Rattle.recovery.specs.declared.marks.Pending.TheVariants.{Closed, Open}
 use Rattle.recovery.specs.Shelf.{kept}
 use Rattle.recovery.specs.Reading.{Event, opens, closes, adds, told}
 use Rattle.recovery.specs.Books.{book}
@@ -35,11 +34,11 @@ module _ {V O : Type 0} (K : Kind V O) (o : Opening) where
 
   -- once nothing is owed, the group is closed and decided
   abbrev pub decided : Group → State V O → State V O
-  decided g s = cond (K.whole s.rest.owed) (cond (wanted g s) (adopted g (with_pending Closed s)) (with_pending Closed s)) s
+  decided g s = cond (K.whole s.rest.owed) (cond (wanted g s) (adopted g (with_pending None s)) (with_pending None s)) s
 
   -- a header closes the open group, and opens one where its instrument is watched and the store can hold it
   abbrev pub begun : ℕ → HeaderFields → State V O → State V O
-  begun i h s = decided (group_of i h) (with_pending (Open (group_of i h)) (with_staged (K.begins h) (K.owes h) s))
+  begun i h s = decided (group_of i h) (with_pending (Some (group_of i h)) (with_staged (K.begins h) (K.owes h) s))
 
   -- a piece of the open group's instrument; one that does not fit closes the group
   abbrev pub grown : ℕ → Part → Group → State V O → State V O
@@ -47,12 +46,12 @@ module _ {V O : Type 0} (K : Kind V O) (o : Opening) where
       cond (i == g.security)
       (cond (K.takes s.rest.staged s.rest.owed p)
       (decided g (with_staged (K.put s.rest.staged s.rest.owed p) (K.less s.rest.owed p) s))
-      (with_pending Closed s))
+      (with_pending None s))
       s
 
   abbrev pub event_step : Event → State V O → State V O
-  event_step (opens i h) s = cond (watched o i && K.holds h) (begun i h s) (with_pending Closed s)
-  event_step closes s = with_pending Closed s
+  event_step (opens i h) s = cond (watched o i && K.holds h) (begun i h s) (with_pending None s)
+  event_step closes s = with_pending None s
   event_step (adds i p) s = on_pending s.plain.pending s (λ g. grown i p g s)
 
   unfoldable pub event_steps : List Event → State V O → State V O

@@ -7,8 +7,6 @@ use Rattle.recovery.specs.declared.answers.Sign.{Sign}
 use Rattle.recovery.specs.declared.answers.Sign.TheVariants as signs
 use Rattle.recovery.specs.declared.fault.StreamFault.TheVariants.{Late}
 use Rattle.recovery.specs.declared.marks.Mark.TheVariants.{Stale, AsOf}
-use Rattle.recovery.specs.declared.marks.Followed.TheVariants.{Nothing}
-use Rattle.recovery.specs.declared.marks.Pending.TheVariants.{Closed}
 use Rattle.recovery.specs.Shelf.{absent}
 use Rattle.recovery.specs.Reading.{opens}
 use Rattle.recovery.specs.Books.{book, lost, settle}
@@ -48,7 +46,7 @@ own_head o n = record { channel = o.channel; version = o.version; number = n }
 -- stale at `heard`, with nothing on the shelf
 abbrev pub lost_at : ℕ → State Latest ℕ
 lost_at heard = record {
-  plain = record { heard = heard; shelf = λ _. absent; joined = true; followed = Nothing; pending = Closed };
+  plain = record { heard = heard; shelf = λ _. absent; joined = true; followed = None; pending = None };
   books = λ _. book Stale None;
   rest = record { room = 1; staged = None; owed = 0 };
 }

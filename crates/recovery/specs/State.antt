@@ -1,13 +1,11 @@
 -- What a receiver is opened with, and its state together with that of its store and shelf.
-use Rattle.std.specs.Prelude.{ℕ, suc, Bool, true, false, cond, not, ◌&&◌, List, [], ◌∷◌, length, ◌==◌, nat_lt, slice_index_or}
+use Rattle.std.specs.Prelude.{ℕ, suc, Bool, true, false, cond, not, ◌&&◌, List, [], ◌∷◌, length, None, Option, ◌==◌, nat_lt, slice_index_or}
 use Rattle.layout.specs.declared.sheet.Sheet.{Sheet}
 use Rattle.store.specs.Kind.{Kind, Model}
 use Rattle.recovery.specs.declared.marks.Mark.{Mark}
 use Rattle.recovery.specs.declared.marks.Mark.TheVariants.{Stale, AsOf}
 use Rattle.recovery.specs.declared.marks.Followed.{Followed}
-use Rattle.recovery.specs.declared.marks.Followed.TheVariants.{Nothing}
-use Rattle.recovery.specs.declared.marks.Pending.{Pending}
-use Rattle.recovery.specs.declared.marks.Pending.TheVariants.{Closed}
+use Rattle.recovery.specs.declared.marks.Group.{Group}
 use Rattle.recovery.specs.Shelf.{Found, absent}
 use Rattle.recovery.specs.Books.{Book, book}
 
@@ -34,13 +32,14 @@ abbrev pub distinct : List ℕ → Bool
 distinct [] = true
 distinct (x ∷ xs) = not (nat_lt (slot_in xs x) (length xs)) && distinct xs
 
--- the plain part, which holds no value: the highest packet heard, the shelf by number, the join, the loop, the open group
+-- the plain part, which holds no value: the highest packet heard, the shelf by number, the join, the loop that is followed, the
+-- open group
 pub record Plain : Type 0 where
   pub heard : ℕ
   pub shelf : ℕ → Found
   pub joined : Bool
-  pub followed : Followed
-  pub pending : Pending
+  pub followed : Option Followed
+  pub pending : Option Group
 
 -- what a store has besides the books: the number of its slots, the staged value and what is owed to it
 pub record Rest (V O : Type 0) : Type 0 where
@@ -68,7 +67,7 @@ module _ {V O : Type 0} (K : Kind V O) where
   -- nothing is heard or shelved, and every watched book is fresh, as of 0
   abbrev pub opened : Opening → Model V O → State V O
   opened o s = record {
-    plain = record { heard = 0; shelf = λ _. absent; joined = false; followed = Nothing; pending = Closed };
+    plain = record { heard = 0; shelf = λ _. absent; joined = false; followed = None; pending = None };
     books = λ q. cond (nat_lt q (length o.watch)) (book (AsOf 0) K.fresh) (book Stale (slice_index_or s.slots q K.fresh));
     rest = rest_of s;
   }

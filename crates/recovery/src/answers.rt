@@ -1,3 +1,8 @@
+ghost use Rattle.std.specs.Prelude.{Some};
+ghost use Rattle.recovery.specs.Signs.{sign_word};
+
+use std::fmt;
+
 // what becomes of an incremental packet that is not refused
 #[derive(Clone, Copy, Debug, PartialEq, Eq)]
 pub enum Incremental {
@@ -18,6 +23,18 @@ pub enum Sign {
     Stale,
     Recovering,
     Current,
+}
+
+impl fmt::Display for Sign {
+    ghost output = { λ s. Some (sign_word s) };
+
+    fn fmt<W: fmt::Write>(&self, f: &mut fmt::Formatter<W>) -> fmt::Result {
+        f.write_str(match self {
+            Sign::Stale => "stale",
+            Sign::Recovering => "recovering",
+            Sign::Current => "current",
+        })
+    }
 }
 
 // what a question answers: the sign, the packet that the book is of (0 if stale), and the highest packet heard

@@ -1,5 +1,5 @@
 -- A packet leaves it as it was whether the receiver is joined.
-use Rattle.std.proofs.Common.{◌≡◌, ℕ, Bool, true, false, cond, ◌&&◌, eqb, List, [], ◌∷◌, Ok, Err, Result, refl, ◌∙◌}
+use Rattle.std.proofs.Common.{◌≡◌, ℕ, Bool, true, false, cond, ◌&&◌, eqb, List, [], ◌∷◌, Some, None, Option, Ok, Err, Result, refl, ◌∙◌}
 use Rattle.message.specs.Meaning.{Msg, Part}
 use Rattle.packet.specs.Rules.{messages, packet_head}
 use Rattle.store.specs.Kind.{Kind}
@@ -7,8 +7,6 @@ use Rattle.recovery.specs.declared.answers.Incremental.{Incremental}
 use Rattle.recovery.specs.declared.answers.Incremental.TheVariants.{Repeat, Taken}
 use Rattle.recovery.specs.declared.fault.StreamFault.{StreamFault}
 use Rattle.recovery.specs.declared.marks.Group.{Group}
-use Rattle.recovery.specs.declared.marks.Pending.{Pending}
-use Rattle.recovery.specs.declared.marks.Pending.TheVariants.{Closed, Open}
 use Rattle.recovery.specs.State.{Opening, State, watched}
 use Rattle.recovery.specs.Answers.{incremental_answer, snapshot_check, again}
 use Rattle.recovery.specs.Updates.{when_taken, when_ok, on_pending, with_pending, with_staged}
@@ -35,9 +33,9 @@ module _ {V O : Type 0} (P : State V O → Bool) where
   of_ok (Err e) x y s p q = q
   of_ok (Ok z) x y s p q = p
 
-  of-pending : (g : Pending) (x s : State V O) (f : Group → State V O) → P x ≡ P s → ((h : Group) → P (f h) ≡ P s) → P (on_pending g x f) ≡ P s
-  of-pending Closed x s f p q = p
-  of-pending (Open h) x s f p q = q h
+  of-pending : (g : Option Group) (x s : State V O) (f : Group → State V O) → P x ≡ P s → ((h : Group) → P (f h) ≡ P s) → P (on_pending g x f) ≡ P s
+  of-pending None x s f p q = p
+  of-pending (Some h) x s f p q = q h
 
 abbrev joined_in : {V O : Type 0} → State V O → Bool
 joined_in s = s.plain.joined
@@ -49,7 +47,7 @@ module _ {V O : Type 0} (K : Kind V O) (o : Opening) where
   of-grown : (i : ℕ) (p : Part) (g : Group) (s : State V O) → joined_in (grown K o i p g s) ≡ joined_in s
   of-grown i p g s =
       let t : State V O = with_staged (K.put s.rest.staged s.rest.owed p) (K.less s.rest.owed p) s in
-      let u : State V O = with_pending Closed s in
+      let u : State V O = with_pending None s in
       let w : State V O = cond (K.takes s.rest.staged s.rest.owed p) (decided K o g t) u in
       of-cond joined_in (eqb i g.security) w s s
       (of-cond joined_in (K.takes s.rest.staged s.rest.owed p) (decided K o g t) u s (of-decided g t) refl)
@@ -57,8 +55,8 @@ module _ {V O : Type 0} (K : Kind V O) (o : Opening) where
 
   of_event : (e : Event) (s : State V O) → joined_in (event_step K o e s) ≡ joined_in s
   of_event (opens i h) s =
-      let t : State V O = with_pending (Open (group_of i h)) (with_staged (K.begins h) (K.owes h) s) in
-      let u : State V O = with_pending Closed s in
+      let t : State V O = with_pending (Some (group_of i h)) (with_staged (K.begins h) (K.owes h) s) in
+      let u : State V O = with_pending None s in
       of-cond joined_in (watched o i && K.holds h) (begun K o i h s) u s (of-decided (group_of i h) t) refl
   of_event closes s = refl
   of_event (adds i p) s = of-pending joined_in s.plain.pending s s (λ g. grown K o i p g s) refl (λ g. of-grown i p g s)

@@ -1,10 +1,22 @@
-use Rattle.std.proofs.Common.{◌≡◌, [], ◌∷◌, Some, None, sym, refl, ap, ◌∙◌}
+use Rattle.std.proofs.Common.{◌≡◌, ℕ, ◌⊎◌, List, [], ◌∷◌, Some, None, Bor, sym, refl, ap, ◌∙◌, ⊎_elim}
+use Rattle.layout.specs.declared.kinds.OrderLayout.{OrderLayout}
+use Rattle.layout.specs.declared.kinds.DeleteLayout.{DeleteLayout}
+use Rattle.layout.specs.declared.kinds.MassLayout.{MassLayout}
+use Rattle.layout.specs.declared.kinds.EmptyLayout.{EmptyLayout}
+use Rattle.message.specs.declared.message.Message.{Message}
+use Rattle.message.specs.declared.message.Message.TheVariants.{Order, Delete, Mass, Empty, Other}
 use Rattle.message.specs.Meaning.{number, or_torn, stat_fields}
 use Rattle.message.specs.Views.{view}
 use Rattle.recovery.specs.Reading.{adds, told, told_by}
 use Rattle.receiver.specs.Standings.{opening_of, state_in}
 use Rattle.receiver.proofs.Telling.{nothing, only}
 use Rattle.receiver.proofs.messages.tell.Goals as goal
+
+-- a message that is none of a snapshot's is read for nothing
+none_told : (x : Message) → ((l : Bor OrderLayout) × (b : Bor (List ℕ)) × (x ≡ Order l b)) ⊎ (((l : Bor DeleteLayout) × (b : Bor (List ℕ)) × (x ≡ Delete l b))
+    ⊎ (((l : Bor MassLayout) × (b : Bor (List ℕ)) × (x ≡ Mass l b)) ⊎ (((l : Bor EmptyLayout) × (b : Bor (List ℕ)) × (x ≡ Empty l b)) ⊎ ((b : Bor (List ℕ)) × (x ≡ Other b)))))
+    → told (view x) ≡ []
+none_told x = ⊎_elim (λ e. ap (λ z. told (view z)) e.2) (⊎_elim (λ e. ap (λ z. told (view z)) e.2) (⊎_elim (λ e. ap (λ z. told (view z)) e.2) (⊎_elim (λ e. ap (λ z. told (view z)) e.2) (λ e. ap (λ z. told (view z)) e.1))))
 
 pub returns-in-Some : goal.returns-in-Some
 returns-in-Some g c =
@@ -31,29 +43,6 @@ returns-in-None-id g c =
 pub returns-in-Order : goal.returns-in-Order
 returns-in-Order g c =
     let m = g.S.Store in let u = c.args.sub.now in let K = m.kind (m.setup c.args.store.now) in
-    let q = nothing K (opening_of u) (view c.args.m.now) (state_in K u c.args.plain.now (m.model c.args.store.now) c.args.shelf.now) (ap (λ z. told (view z)) c.in-Order.is) in
-    record { state = q.0; log = q.1; attends = c.requires.1; stays = refl }
-
-pub returns-in-Delete : goal.returns-in-Delete
-returns-in-Delete g c =
-    let m = g.S.Store in let u = c.args.sub.now in let K = m.kind (m.setup c.args.store.now) in
-    let q = nothing K (opening_of u) (view c.args.m.now) (state_in K u c.args.plain.now (m.model c.args.store.now) c.args.shelf.now) (ap (λ z. told (view z)) c.in-Delete.is) in
-    record { state = q.0; log = q.1; attends = c.requires.1; stays = refl }
-
-pub returns-in-Mass : goal.returns-in-Mass
-returns-in-Mass g c =
-    let m = g.S.Store in let u = c.args.sub.now in let K = m.kind (m.setup c.args.store.now) in
-    let q = nothing K (opening_of u) (view c.args.m.now) (state_in K u c.args.plain.now (m.model c.args.store.now) c.args.shelf.now) (ap (λ z. told (view z)) c.in-Mass.is) in
-    record { state = q.0; log = q.1; attends = c.requires.1; stays = refl }
-
-pub returns-in-Empty : goal.returns-in-Empty
-returns-in-Empty g c =
-    let m = g.S.Store in let u = c.args.sub.now in let K = m.kind (m.setup c.args.store.now) in
-    let q = nothing K (opening_of u) (view c.args.m.now) (state_in K u c.args.plain.now (m.model c.args.store.now) c.args.shelf.now) (ap (λ z. told (view z)) c.in-Empty.is) in
-    record { state = q.0; log = q.1; attends = c.requires.1; stays = refl }
-
-pub returns-in-Other : goal.returns-in-Other
-returns-in-Other g c =
-    let m = g.S.Store in let u = c.args.sub.now in let K = m.kind (m.setup c.args.store.now) in
-    let q = nothing K (opening_of u) (view c.args.m.now) (state_in K u c.args.plain.now (m.model c.args.store.now) c.args.shelf.now) (ap (λ z. told (view z)) c.in-Other.is) in
+    let is : told (view c.args.m.now) ≡ [] = none_told c.args.m.now c.in-Order.is in
+    let q = nothing K (opening_of u) (view c.args.m.now) (state_in K u c.args.plain.now (m.model c.args.store.now) c.args.shelf.now) is in
     record { state = q.0; log = q.1; attends = c.requires.1; stays = refl }
