@@ -17,6 +17,7 @@ use orders::opening::check_opening;
 use orders::order_store::OrderStore;
 use panel::panel_store::PanelStore;
 use reading::standing::Standing;
+use refusal::Refusal;
 use replay::desk::Desk;
 use settling::slots::all_different;
 use settling::watch::Watch;
@@ -67,7 +68,7 @@ fn serve<S: Store + Tells>(
             standing
         }
         Err(fault) => {
-            let refusal = fault.refusal();
+            let refusal = Refusal::from(fault);
             eprintln!(rt;
                 "books: refused {refusal}: --version wants 1 to 65534, --watch 1 to 64 instruments"
             )?;

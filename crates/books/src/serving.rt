@@ -12,6 +12,7 @@ use reading::shown::Shown;
 use reading::standing::Standing;
 use reading::window::Window;
 use recovery::answers::{Sign, Standing as BookStanding};
+use refusal::Refusal;
 use replay::call::{Answer, Call};
 use replay::desk::Desk;
 use std::fs;
@@ -173,7 +174,9 @@ fn take<S: Store + Tells>(
             return Ok(());
         }
         Answer::Refused(fault) => {
-            state.lanes.refuse(lane, fault.refusal(), state.records);
+            state
+                .lanes
+                .refuse(lane, Refusal::from(fault), state.records);
             return Ok(());
         }
         Answer::Joined | Answer::Left | Answer::Standing(_) => return Ok(()),

@@ -3,7 +3,7 @@ use crate::state::State;
 use crate::told::Told;
 use destinations::received::Received;
 use options::endpoint::Endpoint;
-use refusal::{Layer, Refusal};
+use refusal::Reason;
 use shares::noting::hundredths;
 
 // What became of the packets of one destination.
@@ -17,23 +17,18 @@ fn write_received(
     write_endpoint(out, endpoint)?;
     let taken = received.taken;
     let repeated = received.repeated;
-    let late = received.reason(12).count;
+    let late = received.reason(Reason::Late.number()).count;
     writeln!(out, ": {taken} taken, {repeated} repeated, {late} late")?;
-    for number in 1..21u8 {
-        let reason = received.reason(number);
-        if reason.count > 0 {
-            let word = Refusal {
-                number,
-                layer: Layer::Stream,
-                place: 0,
-            }
-            .word();
-            let count = reason.count;
-            let place = reason.place;
-            let index = reason.index;
+    for reason in Reason::ALL {
+        let number = reason.number();
+        let refused = received.reason(number);
+        if refused.count > 0 {
+            let count = refused.count;
+            let place = refused.place;
+            let index = refused.index;
             writeln!(
                 out,
-                "  refused {number} {word}: {count}, first at byte {place} in record {index}"
+                "  refused {number} {reason}: {count}, first at byte {place} in record {index}"
             )?;
         }
     }

@@ -31,20 +31,18 @@ impl Received {
         self.repeated = self.repeated.saturating_add(1);
     }
 
-    // Counts a refusal under its number, which is 1 to 20, in the record with that index.
+    // Counts a refusal under its number, in the record with that index.
     pub fn refuse(&mut self, refusal: Refusal, index: u64)
-        ensures reasons { self.new.reasons ≡ (if leb 1 refusal.number && nat_le refusal.number 20 then refused_noted self.old.reasons refusal index else self.old.reasons) }
+        ensures reasons { self.new.reasons ≡ refused_noted self.old.reasons refusal index }
         ensures others { (self.new.taken ≡ self.old.taken) × (self.new.repeated ≡ self.old.repeated) }
     {
         let Refusal {
-            number,
+            reason,
             layer: _,
             place,
         } = refusal;
-        if 1 <= number && number <= 20 {
-            let reason = usize::from(number) - 1;
-            self.reasons[reason] = self.reasons[reason].again(place, index);
-        }
+        let reason = usize::from(reason.number()) - 1;
+        self.reasons[reason] = self.reasons[reason].again(place, index);
     }
 
     // How often packets were refused for a reason, with the place and the record of the first.

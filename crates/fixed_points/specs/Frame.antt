@@ -4,6 +4,7 @@ use Rattle.layout.specs.declared.sheet.Sheet.{Sheet}
 use Rattle.packet.specs.declared.fault.FrameFault.TheVariants.{Size, Empty}
 use Rattle.message.specs.Meaning.{Msg}
 use Rattle.packet.specs.Rules.{packet_head, packet_check, messages}
+use Rattle.refusal.specs.Reasons.{number_of}
 use Rattle.packet.specs.Refusals.{frame_refusal}
 use Rattle.fixed_points.specs.Sample.{sample}
 
@@ -23,5 +24,5 @@ pub record FramePoints : Type 0 where
   pub bare : (s : Sheet) (bs : List ℕ) → length bs ≡ 16 → packet_check s bs ≡ Err Empty
   pub long : (s : Sheet) (bs : List ℕ) → length bs ≡ 1401 → packet_check s bs ≡ Err Size
   -- these are the refusals 1 at 0 and 2 at 16
-  pub sized : ((frame_refusal Size).number ≡ 1) × ((frame_refusal Size).place ≡ 0)
-  pub emptied : ((frame_refusal Empty).number ≡ 2) × ((frame_refusal Empty).place ≡ 16)
+  pub sized : (number_of (frame_refusal Size).reason ≡ 1) × ((frame_refusal Size).place ≡ 0)
+  pub emptied : (number_of (frame_refusal Empty).reason ≡ 2) × ((frame_refusal Empty).place ≡ 16)

@@ -1,4 +1,34 @@
+ghost use Rattle.std.specs.Prelude.{◌≡◌};
+
 use crate::width::Width;
+use std::fmt;
+
+// what a template's messages are
+#[derive(Clone, Copy, Debug, PartialEq, Eq)]
+pub enum Kind {
+    Order,
+    Delete,
+    Mass,
+    Empty,
+    Stat,
+    Header,
+    Entries,
+}
+
+// The kind's word in a sheet.
+impl fmt::Display for Kind {
+    fn fmt<W: fmt::Write>(&self, f: &mut fmt::Formatter<W>) -> fmt::Result {
+        f.pad(match self {
+            Kind::Order => "order",
+            Kind::Delete => "delete",
+            Kind::Mass => "mass",
+            Kind::Empty => "empty",
+            Kind::Stat => "stat",
+            Kind::Header => "header",
+            Kind::Entries => "entries",
+        })
+    }
+}
 
 // where a field lies: its offset in the block or entry, and its width
 #[derive(Clone, Copy)]
@@ -84,6 +114,33 @@ pub enum Layout {
     Stat(StatLayout),
     Header(HeaderLayout),
     Entries(EntriesLayout),
+}
+
+impl Layout {
+    ghost use Rattle.layout.specs.Kinds.{kind_of};
+    ghost use Rattle.layout.specs.Lawful.{is_stat};
+
+    // What the messages are.
+    pub fn kind(&self) -> Kind
+        ensures { result ≡ kind_of self.now }
+    {
+        match self {
+            Layout::Order(_) => Kind::Order,
+            Layout::Delete(_) => Kind::Delete,
+            Layout::Mass(_) => Kind::Mass,
+            Layout::Empty(_) => Kind::Empty,
+            Layout::Stat(_) => Kind::Stat,
+            Layout::Header(_) => Kind::Header,
+            Layout::Entries(_) => Kind::Entries,
+        }
+    }
+
+    // Whether the messages are statistics.
+    pub fn is_stat(&self) -> bool
+        ensures { result ≡ is_stat self.now }
+    {
+        matches!(self, Layout::Stat(_))
+    }
 }
 
 // the numbers of the four actions

@@ -1,5 +1,6 @@
 ghost use Rattle.std.specs.Prelude.{◌≡◌, ◌+◌, ◌<◌, ◌≤◌, min, true, false, ◌&&◌, [], ◌∷◌, ◌++◌, length, is_some, IfSome, IfOk, if◌then◌else◌, vec_len, vec_capacity, nat_le, slice_index, slice_set};
 ghost use Rattle.layout.specs.Lawful.{lawful, lawful_layout, different, up_to, just, is_stat, stat_count, is_none, find};
+ghost use Rattle.layout.specs.Copies.{SaysTheSame};
 ghost use Rattle.layout.specs.Reach.{root_reach, entry_reach};
 
 use crate::kinds::{Actions, EntriesLayout, Layout, OrderLayout, Spot};
@@ -61,31 +62,11 @@ fn is_entries(l: &EntriesLayout) -> bool
     front & back
 }
 
-fn is_stat(layout: &Layout) -> bool
-    ensures { result ≡ is_stat layout.now }
-{
-    match layout {
-        Layout::Order(_) => false,
-        Layout::Delete(_) => false,
-        Layout::Mass(_) => false,
-        Layout::Empty(_) => false,
-        Layout::Stat(_) => true,
-        Layout::Header(_) => false,
-        Layout::Entries(_) => false,
-    }
-}
-
 // How many templates are of the kind `stat`.
 fn stat_count(templates: &[Template]) -> usize
     ensures { result ≡ stat_count templates.now }
 {
-    let mut n: usize = 0;
-    for t in templates {
-        if is_stat(&t.layout) {
-            n += 1;
-        }
-    }
-    n
+    templates.iter().filter(|t| t.layout.is_stat()).count()
 }
 
 // Whether the four actions have different numbers.
@@ -163,7 +144,7 @@ impl Sheet {
         ensures { result ≡ (nat_le (length self.now.templates.items + 1) 40 && nat_le (stat_count self.now.templates.items + (if is_stat layout.now then 1 else 0)) 16) }
     {
         let stats = stat_count(self.templates.as_slice());
-        if is_stat(layout) {
+        if layout.is_stat() {
             (self.templates.len() < 40) & (stats < 16)
         } else {
             self.templates.len() < 40
@@ -173,10 +154,7 @@ impl Sheet {
     fn is_unlisted(&self, id: u16) -> bool
         ensures { result ≡ is_none (find self.now.templates.items id) }
     {
-        match self.template(id) {
-            Some(_) => false,
-            None => true,
-        }
+        self.template(id).is_none()
     }
 
     fn may_add(&self, t: Template) -> bool
@@ -199,5 +177,20 @@ impl Sheet {
         lower(&mut self.first, usize::from(t.id % 256), n);
         self.templates.push_reserved(t);
         true
+    }
+}
+
+// A second sheet that says the same, with the same room.
+impl Clone for Sheet {
+    ghost is_clone = { SaysTheSame };
+
+    fn clone(&self) -> Result<Sheet, AllocError> {
+        let mut templates = Vec::with_capacity(*self.templates.allocator(), 40)?;
+        templates.extend_from_slice(self.templates.as_slice())?;
+        Ok(Sheet {
+            actions: self.actions,
+            templates,
+            first: self.first,
+        })
     }
 }

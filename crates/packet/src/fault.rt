@@ -1,7 +1,7 @@
 ghost use Rattle.std.specs.Prelude.{◌≡◌};
 ghost use Rattle.packet.specs.Refusals.{frame_refusal};
 
-use refusal::{Layer, Refusal};
+use refusal::{Layer, Reason, Refusal};
 
 // why bytes are no packet of the channel; each holds the place, a byte's offset in the packet, where it varies
 #[derive(Clone, Copy, Debug, PartialEq, Eq)]
@@ -16,23 +16,23 @@ pub enum FrameFault {
     Group(usize),
 }
 
-impl FrameFault {
-    // Its number, layer and place.
-    pub fn refusal(&self) -> Refusal
-        ensures { result ≡ frame_refusal self.now }
-    {
-        let (number, place) = match *self {
-            FrameFault::Size => (1, 0),
-            FrameFault::Empty => (2, 16),
-            FrameFault::Torn(at) => (3, at),
-            FrameFault::Length(at) => (4, at),
-            FrameFault::Encoding(at) => (5, at),
-            FrameFault::Schema(at) => (6, at),
-            FrameFault::Block(at) => (7, at),
-            FrameFault::Group(at) => (8, at),
+// A fault's reason, layer and place.
+impl From<FrameFault> for Refusal {
+    ghost from_gives = { λ fault refusal. refusal ≡ frame_refusal fault };
+
+    fn from(fault: FrameFault) -> Refusal {
+        let (reason, place) = match fault {
+            FrameFault::Size => (Reason::Size, 0),
+            FrameFault::Empty => (Reason::Empty, 16),
+            FrameFault::Torn(at) => (Reason::Torn, at),
+            FrameFault::Length(at) => (Reason::Length, at),
+            FrameFault::Encoding(at) => (Reason::Encoding, at),
+            FrameFault::Schema(at) => (Reason::Schema, at),
+            FrameFault::Block(at) => (Reason::Block, at),
+            FrameFault::Group(at) => (Reason::Group, at),
         };
         Refusal {
-            number,
+            reason,
             layer: Layer::Frame,
             place,
         }

@@ -3,7 +3,7 @@ ghost use Rattle.recovery.specs.declared.fault.StreamFault.TheVariants.{Frame, S
 ghost use Rattle.recovery.specs.Faults.{in_stream, stream_refusal};
 
 use packet::fault::FrameFault;
-use refusal::{Layer, Refusal};
+use refusal::{Layer, Reason, Refusal};
 use store::fault::StoreFault;
 
 // why a call of the receiver is refused: by the packet's frame, by the store, or by the stream itself
@@ -39,34 +39,34 @@ impl From<StoreFault> for StreamFault {
     }
 }
 
-fn in_stream(number: u8, place: usize) -> Refusal
-    ensures { result ≡ in_stream number place }
+fn in_stream(reason: Reason, place: usize) -> Refusal
+    ensures { result ≡ in_stream reason place }
 {
     Refusal {
-        number,
+        reason,
         layer: Layer::Stream,
         place,
     }
 }
 
-impl StreamFault {
-    // The refusal's number, layer and place; those of a frame or a store come through whole.
-    pub fn refusal(&self) -> Refusal
-        ensures { result ≡ stream_refusal self.now }
-    {
-        match *self {
-            StreamFault::Frame(e) => e.refusal(),
-            StreamFault::Store(e) => e.refusal(),
-            StreamFault::Channel => in_stream(9, 0),
-            StreamFault::Version => in_stream(10, 2),
-            StreamFault::Number => in_stream(11, 4),
-            StreamFault::Late => in_stream(12, 4),
-            StreamFault::Join => in_stream(13, 0),
-            StreamFault::Shelf(length) => in_stream(14, length),
-            StreamFault::Instrument => in_stream(15, 0),
-            StreamFault::WatchList => in_stream(16, 1),
-            StreamFault::OwnVersion => in_stream(16, 2),
-            StreamFault::Slots => in_stream(16, 3),
+// A fault's reason, layer and place; those of a frame or a store come through whole.
+impl From<StreamFault> for Refusal {
+    ghost from_gives = { λ fault refusal. refusal ≡ stream_refusal fault };
+
+    fn from(fault: StreamFault) -> Refusal {
+        match fault {
+            StreamFault::Frame(e) => Refusal::from(e),
+            StreamFault::Store(e) => Refusal::from(e),
+            StreamFault::Channel => in_stream(Reason::Channel, 0),
+            StreamFault::Version => in_stream(Reason::Version, 2),
+            StreamFault::Number => in_stream(Reason::Number, 4),
+            StreamFault::Late => in_stream(Reason::Late, 4),
+            StreamFault::Join => in_stream(Reason::Join, 0),
+            StreamFault::Shelf(length) => in_stream(Reason::Shelf, length),
+            StreamFault::Instrument => in_stream(Reason::Instrument, 0),
+            StreamFault::WatchList => in_stream(Reason::Opening, 1),
+            StreamFault::OwnVersion => in_stream(Reason::Opening, 2),
+            StreamFault::Slots => in_stream(Reason::Opening, 3),
         }
     }
 }

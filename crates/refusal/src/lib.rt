@@ -1,8 +1,10 @@
 #![tactic(auto)]
 
 ghost use Rattle.std.specs.Prelude.{◌≡◌};
+ghost use Rattle.refusal.specs.Reasons.{number_of, Decodes};
 ghost use Rattle.refusal.specs.Words.{word_of, layer_word};
 
+use std::error::Error;
 use std::fmt;
 
 // which part of the receiver refuses
@@ -14,10 +16,39 @@ pub enum Layer {
     Sheet,
 }
 
-// what a refused call gives: the refusal's number, the layer that refuses, and the place
+// why a call is refused, by number from 1 on
+#[derive(Clone, Copy, Debug, PartialEq, Eq)]
+pub enum Reason {
+    Size,
+    Empty,
+    Torn,
+    Length,
+    Encoding,
+    Schema,
+    Block,
+    Group,
+    Channel,
+    Version,
+    Number,
+    Late,
+    Join,
+    Shelf,
+    Instrument,
+    Opening,
+    Sheet,
+    Slot,
+    Unfit,
+    Owed,
+}
+
+// a number that no reason has
+#[derive(Clone, Copy, Debug, PartialEq, Eq)]
+pub struct UnknownReason(pub u8);
+
+// what a refused call gives: the reason, the layer that refuses, and the place
 #[derive(Clone, Copy, Debug, PartialEq, Eq)]
 pub struct Refusal {
-    pub number: u8,
+    pub reason: Reason,
     pub layer: Layer,
     pub place: usize,
 }
@@ -36,44 +67,157 @@ impl Layer {
     }
 }
 
-impl Refusal {
-    // The refusal's word, by its number.
-    pub fn word(&self) -> &'static str
-        ensures { result.now ≡ word_of self.now.number }
+impl Reason {
+    // All reasons, by their numbers.
+    pub const ALL: [Reason; 20] = [
+        Reason::Size,
+        Reason::Empty,
+        Reason::Torn,
+        Reason::Length,
+        Reason::Encoding,
+        Reason::Schema,
+        Reason::Block,
+        Reason::Group,
+        Reason::Channel,
+        Reason::Version,
+        Reason::Number,
+        Reason::Late,
+        Reason::Join,
+        Reason::Shelf,
+        Reason::Instrument,
+        Reason::Opening,
+        Reason::Sheet,
+        Reason::Slot,
+        Reason::Unfit,
+        Reason::Owed,
+    ];
+
+    // The reason's number, 1 to 20.
+    pub fn number(self) -> u8
+        ensures { result ≡ number_of self }
     {
-        match self.number {
-            1 => "size",
-            2 => "empty",
-            3 => "torn",
-            4 => "length",
-            5 => "encoding",
-            6 => "schema",
-            7 => "block",
-            8 => "group",
-            9 => "channel",
-            10 => "version",
-            11 => "number",
-            12 => "late",
-            13 => "join",
-            14 => "shelf",
-            15 => "instrument",
-            16 => "opening",
-            17 => "sheet",
-            18 => "slot",
-            19 => "unfit",
-            20 => "owed",
-            _ => "unknown",
+        match self {
+            Reason::Size => 1,
+            Reason::Empty => 2,
+            Reason::Torn => 3,
+            Reason::Length => 4,
+            Reason::Encoding => 5,
+            Reason::Schema => 6,
+            Reason::Block => 7,
+            Reason::Group => 8,
+            Reason::Channel => 9,
+            Reason::Version => 10,
+            Reason::Number => 11,
+            Reason::Late => 12,
+            Reason::Join => 13,
+            Reason::Shelf => 14,
+            Reason::Instrument => 15,
+            Reason::Opening => 16,
+            Reason::Sheet => 17,
+            Reason::Slot => 18,
+            Reason::Unfit => 19,
+            Reason::Owed => 20,
         }
+    }
+
+    // The reason's word.
+    pub fn word(&self) -> &'static str
+        ensures { result.now ≡ word_of (number_of self.now) }
+    {
+        match self {
+            Reason::Size => "size",
+            Reason::Empty => "empty",
+            Reason::Torn => "torn",
+            Reason::Length => "length",
+            Reason::Encoding => "encoding",
+            Reason::Schema => "schema",
+            Reason::Block => "block",
+            Reason::Group => "group",
+            Reason::Channel => "channel",
+            Reason::Version => "version",
+            Reason::Number => "number",
+            Reason::Late => "late",
+            Reason::Join => "join",
+            Reason::Shelf => "shelf",
+            Reason::Instrument => "instrument",
+            Reason::Opening => "opening",
+            Reason::Sheet => "sheet",
+            Reason::Slot => "slot",
+            Reason::Unfit => "unfit",
+            Reason::Owed => "owed",
+        }
+    }
+}
+
+// The reason with a number.
+impl TryFrom<u8> for Reason {
+    type Error = UnknownReason;
+
+    ghost try_from_gives = { Decodes };
+
+    fn try_from(number: u8) -> Result<Self, UnknownReason> {
+        match number {
+            1 => Ok(Reason::Size),
+            2 => Ok(Reason::Empty),
+            3 => Ok(Reason::Torn),
+            4 => Ok(Reason::Length),
+            5 => Ok(Reason::Encoding),
+            6 => Ok(Reason::Schema),
+            7 => Ok(Reason::Block),
+            8 => Ok(Reason::Group),
+            9 => Ok(Reason::Channel),
+            10 => Ok(Reason::Version),
+            11 => Ok(Reason::Number),
+            12 => Ok(Reason::Late),
+            13 => Ok(Reason::Join),
+            14 => Ok(Reason::Shelf),
+            15 => Ok(Reason::Instrument),
+            16 => Ok(Reason::Opening),
+            17 => Ok(Reason::Sheet),
+            18 => Ok(Reason::Slot),
+            19 => Ok(Reason::Unfit),
+            20 => Ok(Reason::Owed),
+            _ => Err(UnknownReason(number)),
+        }
+    }
+}
+
+impl Refusal {
+    // The word of the refusal's reason.
+    pub fn word(&self) -> &'static str
+        ensures { result.now ≡ word_of (number_of self.now.reason) }
+    {
+        self.reason.word()
+    }
+}
+
+impl fmt::Display for Layer {
+    fn fmt<W: fmt::Write>(&self, f: &mut fmt::Formatter<W>) -> fmt::Result {
+        f.pad(self.word())
+    }
+}
+
+impl fmt::Display for Reason {
+    fn fmt<W: fmt::Write>(&self, f: &mut fmt::Formatter<W>) -> fmt::Result {
+        f.pad(self.word())
     }
 }
 
 // `NUMBER WORD LAYER PLACE`
 impl fmt::Display for Refusal {
     fn fmt<W: fmt::Write>(&self, f: &mut fmt::Formatter<W>) -> fmt::Result {
-        let number = self.number;
-        let word = self.word();
-        let layer = self.layer.word();
+        let number = self.reason.number();
+        let reason = self.reason;
+        let layer = self.layer;
         let place = self.place;
-        write!(f, "{number} {word} {layer} {place}")
+        write!(f, "{number} {reason} {layer} {place}")
     }
 }
+
+impl fmt::Display for UnknownReason {
+    fn fmt<W: fmt::Write>(&self, f: &mut fmt::Formatter<W>) -> fmt::Result {
+        write!(f, "no refusal has the number {}", self.0)
+    }
+}
+
+impl Error for UnknownReason {}

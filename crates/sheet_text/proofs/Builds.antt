@@ -7,7 +7,7 @@ use Rattle.layout.specs.declared.kinds.Layout.{Layout}
 use Rattle.layout.specs.declared.template.Template.{Template}
 use Rattle.layout.proofs.Adds.{push_lawful, none-cond}
 use Rattle.layout.specs.Lawful.{lawful, lawful_layout, is_stat, stat_count, is_none, find}
-use Rattle.sheet_text.specs.declared.types.Kind.TheVariants.{Stat}
+use Rattle.layout.specs.declared.kinds.Kind.TheVariants.{Stat}
 use Rattle.sheet_text.specs.declared.types.FieldLine.{FieldLine}
 use Rattle.sheet_text.specs.Names.{same_kind}
 use Rattle.sheet_text.specs.Follows.{listed, firsts, stat_lines}

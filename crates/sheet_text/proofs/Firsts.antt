@@ -1,7 +1,7 @@
 -- The first line of each template, as lines are added.
 use Rattle.std.proofs.Common.{◌≡◌, ℕ, ◌+◌, ◌<◌, Bool, true, false, cond, not, ◌&&◌, List, [], ◌∷◌, ◌++◌, length, get_or, take, drop, sym, refl, ap, ◌∙◌, arith}
 use Rattle.std.proofs.lemmas.List.{drop_more, take_more, append_assoc, append-nil}
-use Rattle.sheet_text.specs.declared.types.Kind.TheVariants.{Stat}
+use Rattle.layout.specs.declared.kinds.Kind.TheVariants.{Stat}
 use Rattle.sheet_text.specs.declared.types.FieldLine.{FieldLine}
 use Rattle.sheet_text.specs.Names.{same_kind}
 use Rattle.sheet_text.specs.Follows.{listed, firsts, stat_lines}

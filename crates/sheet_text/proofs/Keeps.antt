@@ -2,7 +2,7 @@
 use Rattle.std.proofs.Common.{◌≡◌, ℕ, ◌+◌, ◌<◌, ◌≤◌, Bool, true, false, cond, not, ◌&&◌, ◌||◌, eqb, ltb, List, [], ◌∷◌, ◌++◌, length, Some, None, Option, sym, ap, ◌∙◌, ⊎_elim, arith}
 use Rattle.std.proofs.lemmas.List.{append-nil, length_push}
 use Rattle.std.proofs.lemmas.Bool.{false≢true, cases_Bool, eqb-true, ltb-true, and_parts, not-true, cond-true, cond-false}
-use Rattle.sheet_text.specs.declared.types.Kind.TheVariants.{Stat}
+use Rattle.layout.specs.declared.kinds.Kind.TheVariants.{Stat}
 use Rattle.sheet_text.specs.declared.types.FieldLine.{FieldLine}
 use Rattle.sheet_text.specs.Names.{same_kind, among, fields_of}
 use Rattle.sheet_text.specs.FieldLines.{sound, allowed}

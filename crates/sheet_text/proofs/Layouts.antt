@@ -2,8 +2,8 @@
 use Rattle.std.proofs.Common.{◌≡◌, ℕ, true, cond, ◌&&◌, eqb, List, [], ◌∷◌, sym, refl, ap, ◌∙◌, subst}
 use Rattle.std.proofs.lemmas.Bool.{and_parts, and_from, eqb-true, cond_both}
 use Rattle.layout.specs.Lawful.{lawful_layout, is_stat}
-use Rattle.sheet_text.specs.declared.types.Kind.{Kind}
-use Rattle.sheet_text.specs.declared.types.Kind.TheVariants.{Order, Delete, Mass, Empty, Stat, Header, Entries}
+use Rattle.layout.specs.declared.kinds.Kind.{Kind}
+use Rattle.layout.specs.declared.kinds.Kind.TheVariants.{Order, Delete, Mass, Empty, Stat, Header, Entries}
 use Rattle.sheet_text.specs.declared.types.Field.{Field}
 use Rattle.sheet_text.specs.declared.types.Field.TheVariants.{Security, Action, Side, Position, Price, Size, Oid, Firm, Value, Last, Bids, Offers, Stats, Group}
 use Rattle.sheet_text.specs.declared.types.FieldLine.{FieldLine}

@@ -1,8 +1,8 @@
 -- How many fields a template still lacks, as lines are added.
 use Rattle.std.proofs.Common.{◌≡◌, ℕ, ◌+◌, ◌≤◌, Bool, true, false, cond, ◌&&◌, ◌||◌, eqb, List, [], ◌∷◌, ◌++◌, length, Some, None, Option, sym, refl, ap, ◌∙◌, ⊎_elim, arith}
 use Rattle.std.proofs.lemmas.Bool.{false≢true, eqb-true, eq-eqb, or_cases, or_parts}
-use Rattle.sheet_text.specs.declared.types.Kind.{Kind}
-use Rattle.sheet_text.specs.declared.types.Kind.TheVariants.{Order, Delete, Mass, Empty, Stat, Header, Entries}
+use Rattle.layout.specs.declared.kinds.Kind.{Kind}
+use Rattle.layout.specs.declared.kinds.Kind.TheVariants.{Order, Delete, Mass, Empty, Stat, Header, Entries}
 use Rattle.sheet_text.specs.declared.types.Field.{Field}
 use Rattle.sheet_text.specs.declared.types.FieldLine.{FieldLine}
 use Rattle.sheet_text.specs.Names.{kind_number, field_number, same_field, among, fields_of}

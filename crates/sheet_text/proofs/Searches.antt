@@ -1,7 +1,7 @@
 -- A loop that looks for an element, and one that adds up, step by step.
 use Rattle.std.proofs.Common.{◌≡◌, ℕ, ◌+◌, ◌<◌, ◌≤◌, Bool, true, false, cond, not, ◌||◌, List, [], ◌∷◌, length, get_or, drop, sym, refl, ap, ◌∙◌, arith}
 use Rattle.layout.specs.declared.width.Width.TheVariants.{One}
-use Rattle.sheet_text.specs.declared.types.Kind.TheVariants.{Order}
+use Rattle.layout.specs.declared.kinds.Kind.TheVariants.{Order}
 use Rattle.sheet_text.specs.declared.types.Field.TheVariants.{Security}
 use Rattle.sheet_text.specs.declared.types.FieldLine.{FieldLine}
 use Rattle.std.proofs.lemmas.List.{at_drop_more, at_drop_all}

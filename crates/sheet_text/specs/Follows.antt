@@ -1,7 +1,7 @@
 -- Which field line may stand behind which others.
 use Rattle.std.specs.Prelude.{ℕ, ◌+◌, Bool, false, cond, not, ◌&&◌, ◌||◌, List, [], ◌∷◌, ◌++◌, length, Some, None, Option, ◌==◌, nat_lt}
-use Rattle.sheet_text.specs.declared.types.Kind.{Kind}
-use Rattle.sheet_text.specs.declared.types.Kind.TheVariants.{Stat}
+use Rattle.layout.specs.declared.kinds.Kind.{Kind}
+use Rattle.layout.specs.declared.kinds.Kind.TheVariants.{Stat}
 use Rattle.sheet_text.specs.declared.types.Field.{Field}
 use Rattle.sheet_text.specs.declared.types.FieldLine.{FieldLine}
 use Rattle.sheet_text.specs.Names.{fields_of, same_kind, same_field}

@@ -6,8 +6,8 @@ use Rattle.layout.specs.declared.kinds.Spot.{Spot}
 use Rattle.layout.specs.declared.kinds.Layout.{Layout}
 use Rattle.layout.specs.declared.kinds.Layout.TheVariants as layout
 use Rattle.layout.specs.declared.template.Template.{Template}
-use Rattle.sheet_text.specs.declared.types.Kind.{Kind}
-use Rattle.sheet_text.specs.declared.types.Kind.TheVariants.{Order, Delete, Mass, Empty, Stat, Header, Entries}
+use Rattle.layout.specs.declared.kinds.Kind.{Kind}
+use Rattle.layout.specs.declared.kinds.Kind.TheVariants.{Order, Delete, Mass, Empty, Stat, Header, Entries}
 use Rattle.sheet_text.specs.declared.types.Field.{Field}
 use Rattle.sheet_text.specs.declared.types.Field.TheVariants.{Security, Action, Side, Position, Price, Size, Oid, Firm, Value, Last, Bids, Offers, Stats, Group}
 use Rattle.sheet_text.specs.declared.types.FieldLine.{FieldLine}

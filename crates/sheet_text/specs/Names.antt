@@ -3,8 +3,8 @@ use Rattle.std.specs.Prelude.{ℕ, Bool, false, cond, ◌||◌, List, [], ◌∷
 use Rattle.std.specs.Str.{bytes_eq}
 use Rattle.layout.specs.declared.width.Width.{Width}
 use Rattle.layout.specs.declared.width.Width.TheVariants.{One, Two, Four, Eight}
-use Rattle.sheet_text.specs.declared.types.Kind.{Kind}
-use Rattle.sheet_text.specs.declared.types.Kind.TheVariants.{Order, Delete, Mass, Empty, Stat, Header, Entries}
+use Rattle.layout.specs.declared.kinds.Kind.{Kind}
+use Rattle.layout.specs.declared.kinds.Kind.TheVariants.{Order, Delete, Mass, Empty, Stat, Header, Entries}
 use Rattle.sheet_text.specs.declared.types.Field.{Field}
 use Rattle.sheet_text.specs.declared.types.Field.TheVariants.{Security, Action, Side, Position, Price, Size, Oid, Firm, Value, Last, Bids, Offers, Stats, Group}
 

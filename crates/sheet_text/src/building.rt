@@ -6,9 +6,9 @@ ghost use Rattle.sheet_text.specs.Kept.{Kept};
 
 use crate::follows::is_listed;
 use crate::names::same_field;
-use crate::types::{Field, FieldLine, Kind};
+use crate::types::{Field, FieldLine};
 use layout::kinds::{
-    Actions, DeleteLayout, EmptyLayout, EntriesLayout, HeaderLayout, Layout, MassLayout,
+    Actions, DeleteLayout, EmptyLayout, EntriesLayout, HeaderLayout, Kind, Layout, MassLayout,
     OrderLayout, Spot, StatLayout,
 };
 use layout::sheet::Sheet;

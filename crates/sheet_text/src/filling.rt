@@ -7,8 +7,8 @@ ghost use Rattle.sheet_text.specs.Meaning.{listing, actions_in, templates_in};
 use crate::building::build;
 use crate::opening::opening;
 use crate::reading::read_fields;
-use crate::types::{Field, FieldLine, Kind, SheetFault};
-use layout::kinds::Spot;
+use crate::types::{Field, FieldLine, SheetFault};
+use layout::kinds::{Kind, Spot};
 use layout::sheet::Sheet;
 use layout::width::Width;
 

@@ -3,7 +3,8 @@ ghost use Rattle.sheet_text.specs.Names.{fields_of};
 ghost use Rattle.sheet_text.specs.Follows.{listed, named, missing, firsts, stat_lines, last_of, lacks, complete, goes_on, room_for, may_follow};
 
 use crate::names::{fields_of, same_field, same_kind};
-use crate::types::{Field, FieldLine, Kind};
+use crate::types::{Field, FieldLine};
+use layout::kinds::Kind;
 
 // Whether a line is of that template.
 pub(crate) fn is_listed(lines: &[FieldLine], template: u16) -> bool

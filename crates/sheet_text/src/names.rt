@@ -2,7 +2,8 @@ ghost use Rattle.std.specs.Prelude.{◌≡◌};
 ghost use Rattle.std.specs.Str.{bytes_eq};
 ghost use Rattle.sheet_text.specs.Names.{kind_number, field_number, same_kind, same_field, fields_of, kind_of, field_of, width_of};
 
-use crate::types::{Field, Kind};
+use crate::types::Field;
+use layout::kinds::Kind;
 use layout::width::Width;
 
 // Whether two words are the same.

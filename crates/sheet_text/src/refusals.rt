@@ -2,17 +2,17 @@ ghost use Rattle.std.specs.Prelude.{◌≡◌};
 ghost use Rattle.sheet_text.specs.Refusals.{sheet_refusal};
 
 use crate::types::SheetFault;
-use refusal::{Layer, Refusal};
+use refusal::{Layer, Reason, Refusal};
 
-impl SheetFault {
-    // Its number, layer and place.
-    pub fn refusal(&self) -> Refusal
-        ensures { result ≡ sheet_refusal self.now }
-    {
+// A fault's reason, layer and place.
+impl From<SheetFault> for Refusal {
+    ghost from_gives = { λ fault refusal. refusal ≡ sheet_refusal fault };
+
+    fn from(fault: SheetFault) -> Refusal {
         Refusal {
-            number: 17,
+            reason: Reason::Sheet,
             layer: Layer::Sheet,
-            place: self.line,
+            place: fault.line,
         }
     }
 }

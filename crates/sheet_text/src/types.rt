@@ -1,21 +1,9 @@
-use layout::kinds::Spot;
+use layout::kinds::{Kind, Spot};
 
 // the first line that breaks a rule or is missing, from 1
 #[derive(Clone, Copy, Debug, PartialEq, Eq)]
 pub struct SheetFault {
     pub line: usize,
-}
-
-// what a template's messages are
-#[derive(Clone, Copy)]
-pub enum Kind {
-    Order,
-    Delete,
-    Mass,
-    Empty,
-    Stat,
-    Header,
-    Entries,
 }
 
 // a field's name

@@ -4,14 +4,15 @@ use message::fields::security_of;
 use packet::checked::Checked;
 use packet::rules::check;
 use recovery::fault::StreamFault;
+use refusal::Refusal;
 use replay::call::{Answer, Call};
 use replay::desk::Desk;
 use store::store::Store;
 
 // A refusal as a number.
 fn refused(fault: StreamFault) -> u64 {
-    let refusal = fault.refusal();
-    (u64::from(refusal.number) << 32) | (refusal.place as u64)
+    let refusal = Refusal::from(fault);
+    (u64::from(refusal.reason.number()) << 32) | (refusal.place as u64)
 }
 
 // An answer as a number.

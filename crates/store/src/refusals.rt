@@ -2,28 +2,28 @@ ghost use Rattle.std.specs.Prelude.{◌≡◌};
 ghost use Rattle.store.specs.Faults.{by_store, refusal_of};
 
 use crate::fault::StoreFault;
-use refusal::{Layer, Refusal};
+use refusal::{Layer, Reason, Refusal};
 
-fn by_store(number: u8, place: usize) -> Refusal
-    ensures { result ≡ by_store number place }
+fn by_store(reason: Reason, place: usize) -> Refusal
+    ensures { result ≡ by_store reason place }
 {
     Refusal {
-        number,
+        reason,
         layer: Layer::Store,
         place,
     }
 }
 
-impl StoreFault {
-    // The refusal's number, layer and place.
-    pub fn refusal(&self) -> Refusal
-        ensures { result ≡ refusal_of self.now }
-    {
-        match *self {
-            StoreFault::Opening => by_store(16, 4),
-            StoreFault::Slot(slot) => by_store(18, slot),
-            StoreFault::Unfit => by_store(19, 0),
-            StoreFault::Owed => by_store(20, 0),
+// A fault's reason, layer and place.
+impl From<StoreFault> for Refusal {
+    ghost from_gives = { λ fault refusal. refusal ≡ refusal_of fault };
+
+    fn from(fault: StoreFault) -> Refusal {
+        match fault {
+            StoreFault::Opening => by_store(Reason::Opening, 4),
+            StoreFault::Slot(slot) => by_store(Reason::Slot, slot),
+            StoreFault::Unfit => by_store(Reason::Unfit, 0),
+            StoreFault::Owed => by_store(Reason::Owed, 0),
         }
     }
 }

@@ -3,6 +3,7 @@ use Rattle.std.specs.Prelude.{ℕ, ◌+◌, ◌-◌, ◌^◌, min, cond, List, [
 use Rattle.layout.specs.declared.kinds.Layout.{Layout}
 use Rattle.layout.specs.declared.kinds.Layout.TheVariants.{Order, Delete, Mass, Empty, Stat, Header, Entries}
 use Rattle.refusal.specs.declared.Refusal.{Refusal}
+use Rattle.refusal.specs.Reasons.{number_of}
 use Rattle.message.specs.Meaning.{Msg}
 use Rattle.survey.specs.declared.counts.Refused.{Refused}
 
@@ -39,4 +40,4 @@ again r at in-record =
 
 -- the refusals are numbered from 1
 abbrev pub refused_noted : List Refused → Refusal → ℕ → List Refused
-refused_noted all r in-record = slice_set all (r.number - 1) (again (slice_index_or all (r.number - 1) never) r.place in-record)
+refused_noted all r in-record = slice_set all (number_of r.reason - 1) (again (slice_index_or all (number_of r.reason - 1) never) r.place in-record)

@@ -91,11 +91,11 @@ impl Counts {
         ensures reasons { self.new.reasons ≡ refused_noted self.old.reasons (frame_refusal fault) index }
     {
         let Refusal {
-            number,
+            reason,
             layer: _,
             place,
-        } = fault.refusal();
-        let reason = usize::from(number) - 1;
+        } = Refusal::from(fault);
+        let reason = usize::from(reason.number()) - 1;
         self.reasons[reason] = self.reasons[reason].again(place, index);
     }
 }

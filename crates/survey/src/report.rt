@@ -2,7 +2,7 @@ use crate::counts::Counts;
 use crate::destination::{Destination, Flow};
 use crate::sums::Sums;
 use crate::table::Table;
-use refusal::{Layer, Refusal};
+use refusal::Reason;
 
 // A figure on a line of its own.
 fn figure(out: &mut String, name: &str, value: u64) -> anyhow::Result<()> {
@@ -37,21 +37,15 @@ fn write_kinds(out: &mut String, counts: &Counts) -> anyhow::Result<()> {
 // The refused datagrams by reason, each with the first.
 fn write_reasons(out: &mut String, counts: &Counts) -> anyhow::Result<()> {
     figure(out, "refused", counts.all_refused())?;
-    for (reason, refused) in counts.reasons.iter().enumerate() {
+    for (reason, refused) in Reason::ALL.iter().zip(counts.reasons.iter()) {
         if refused.count > 0 {
-            let number = (reason as u8).wrapping_add(1);
+            let number = reason.number();
             let count = refused.count;
             let place = refused.place;
             let index = refused.index;
-            let refusal = Refusal {
-                number,
-                layer: Layer::Frame,
-                place,
-            };
-            let word = refusal.word();
             writeln!(
                 out,
-                "    {number} {word:<12}{count:>12}   first at byte {place}, record {index}"
+                "    {number} {reason:<12}{count:>12}   first at byte {place}, record {index}"
             )?;
         }
     }

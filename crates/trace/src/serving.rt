@@ -11,6 +11,7 @@ use orders::opening::check_opening;
 use orders::order_store::OrderStore;
 use orders::side::Side;
 use panel::panel_store::PanelStore;
+use refusal::Refusal;
 use replay::desk::Desk;
 use replay::tape::Tape;
 use store::store::Store;
@@ -105,7 +106,7 @@ fn tell_side<S: Shows>(
             store.show_side(slot, side, out)?;
             writeln!(out, "")?;
         }
-        Err(fault) => refused(fault.refusal(), out)?,
+        Err(fault) => refused(Refusal::from(fault), out)?,
     }
     Ok(Done::Answered)
 }
@@ -127,7 +128,7 @@ fn tell_stats<S: Shows>(
             store.show_stats(slot, templates, out)?;
             writeln!(out, "")?;
         }
-        Err(fault) => refused(fault.refusal(), out)?,
+        Err(fault) => refused(Refusal::from(fault), out)?,
     }
     Ok(Done::Answered)
 }
@@ -283,7 +284,7 @@ fn serve<S: Store + Shows>(
             more
         }
         Err(fault) => {
-            refused(fault.refusal(), out)?;
+            refused(Refusal::from(fault), out)?;
             idle(rt, session, lines, out)
         }
     }
@@ -313,7 +314,7 @@ pub fn begin(
                     serve(rt, &mut store, session, lines, out)
                 }
                 Err(fault) => {
-                    refused(fault.refusal(), out)?;
+                    refused(Refusal::from(fault), out)?;
                     idle(rt, session, lines, out)
                 }
             }

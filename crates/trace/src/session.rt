@@ -7,6 +7,7 @@ use orders::opening::check_opening as check_table;
 use packet::checked::Checked;
 use packet::rules::check;
 use receiver::checks::check_opening;
+use refusal::Refusal;
 use sheet_text::filling::fill;
 use sheet_text::text::cut;
 use std::alloc::{AllocError, Global};
@@ -119,7 +120,7 @@ impl Session {
                 let n = self.sheet.templates.len();
                 writeln!(out, "sheet {n}")?;
             }
-            Err(fault) => refused(fault.refusal(), out)?,
+            Err(fault) => refused(Refusal::from(fault), out)?,
         }
         Ok(Done::Answered)
     }
@@ -130,7 +131,7 @@ impl Session {
         }
         match check(&self.sheet, &self.bytes) {
             Ok(()) => list_packet(&Checked::new(&self.sheet, &self.bytes), out)?,
-            Err(fault) => refused(fault.refusal(), out)?,
+            Err(fault) => refused(Refusal::from(fault), out)?,
         }
         Ok(Done::Answered)
     }
@@ -145,7 +146,7 @@ impl Session {
                 let n = slots_of(self.next);
                 writeln!(out, "store {n}")?;
             }
-            Err(fault) => refused(fault.refusal(), out)?,
+            Err(fault) => refused(Refusal::from(fault), out)?,
         }
         Ok(Done::Answered)
     }
@@ -199,7 +200,7 @@ impl Session {
                 Ok(Done::Opened)
             }
             Err(fault) => {
-                refused(fault.refusal(), out)?;
+                refused(Refusal::from(fault), out)?;
                 Ok(Done::Answered)
             }
         }

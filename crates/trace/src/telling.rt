@@ -64,7 +64,7 @@ pub fn tell(answer: Answer, out: &mut String) -> anyhow::Result<()> {
         Answer::Joined => writeln!(out, "joined")?,
         Answer::Left => writeln!(out, "left")?,
         Answer::Standing(s) => tell_standing(s, out)?,
-        Answer::Refused(fault) => refused(fault.refusal(), out)?,
+        Answer::Refused(fault) => refused(Refusal::from(fault), out)?,
     }
     Ok(())
 }
