@@ -1,9 +1,9 @@
-use Rattle.std.proofs.Common.{arith}
-use Rattle.sheet_text.proofs.Cuts.{cut-found, cut-none}
+use Rattle.std.proofs.Common.{sym, ◌∙◌}
+use Rattle.sheet_text.proofs.Cuts.{cut_absent, cut-present}
 use Rattle.sheet_text.proofs.text.cut.Goals as goal
 
-pub returns-then-x-b : goal.returns-then-x-b
-returns-then-x-b c = cut-found c.args.b c.args.s.now c.loop-i.i (omega arith) c.loop-i.invariant c.if-x-b.true
+pub returns-in_err-at : goal.returns-in_err-at
+returns-in_err-at c = rw c.from_residual.ensures (cut_absent c.args.b c.args.s.now (sym c.place_of.ensures ∙ c.in_err-at.was))
 
 pub returns : goal.returns
-returns c = cut-none c.args.b c.args.s.now (λ k h. c.loop-i.invariant k (omega arith))
+returns c = cut-present c.args.b c.args.s.now c.in_ok-at.at (sym c.place_of.ensures ∙ c.in_ok-at.was)
