@@ -5,7 +5,7 @@ use Rattle.std.proofs.lemmas.Bool.{cond-true, eq-eqb, ne_eqb, and_parts, ltb-tru
 use Rattle.message.specs.declared.values.EntryFields.{EntryFields}
 use Rattle.message.specs.Meaning.{Body, entry}
 use Rattle.store.specs.Kind.{Model}
-use Rattle.store.specs.Calls.{fits_at, value_at, with_slot, with_staged, add_answer, added}
+use Rattle.store.specs.Calls.{fits_at, value_at, with_slot, with_staged, with_piece}
 use Rattle.orders.specs.declared.due.Due.{Due}
 use Rattle.orders.specs.declared.rows.Rows.{Rows}
 use Rattle.orders.specs.declared.order_store.OrderStore.{OrderStore}
@@ -49,25 +49,25 @@ module _ (s : OrderStore) where
     owes b q = ltb-true _ _ (ap (λ z. ltb 0 (cond z s.owed.bids s.owed.offers)) (sym q) ∙ (and_parts (eqb e.position (length (side_of (book_at s.rows 0) e.side) + 1)) _ (and_parts (is_side e.side) _ (sym f)).1).1)
 
     pub taken_bid : e.side ≡ 48 → Puts s.rows t 0 (row s.rows 0 ++ (e.order ∷ []))
-        → (Ok tt ≡ add_answer (orders (setup_of s)) (model_of s) (entry e)) × (model t s.slots (due_of (s.owed.bids - 1) s.owed.offers) ≡ added (orders (setup_of s)) (model_of s) (entry e)) × Sound s t (due_of (s.owed.bids - 1) s.owed.offers)
+        → (true ≡ fits_entry (book_at s.rows 0) s.owed e) × (model t s.slots (due_of (s.owed.bids - 1) s.owed.offers) ≡ with_piece (orders (setup_of s)) (model_of s) (entry e)) × Sound s t (due_of (s.owed.bids - 1) s.owed.offers)
     unfolding entered
     taken_bid q p =
         let yes = eq-eqb e.side 48 q in
         let i : 1 < s.rows.count = omega (arith, s.count) in
         let u = bids-put s.rows t 0 i _ p in (
-          sym (cond-true _ _ _ (sym f)),
-          staged-put (setup_of s) s.rows t s.slots s.count _ s.owed _ u ∙ (ap (entered e) (sym yes) ∙ sym (cond-true _ _ _ (sym f))),
+          f,
+          staged-put (setup_of s) s.rows t s.slots s.count _ s.owed _ u ∙ ap (entered e) (sym yes),
           sound-staged s t _ _ u (omega (arith, s.bids, length_push (row s.rows 0) e.order, owes true yes)) s.offers,
         )
 
     pub taken_offer : (e.side ≡ 48 → ⊥) → Puts s.rows t 1 (row s.rows 1 ++ (e.order ∷ []))
-        → (Ok tt ≡ add_answer (orders (setup_of s)) (model_of s) (entry e)) × (model t s.slots (due_of s.owed.bids (s.owed.offers - 1)) ≡ added (orders (setup_of s)) (model_of s) (entry e)) × Sound s t (due_of s.owed.bids (s.owed.offers - 1))
+        → (true ≡ fits_entry (book_at s.rows 0) s.owed e) × (model t s.slots (due_of s.owed.bids (s.owed.offers - 1)) ≡ with_piece (orders (setup_of s)) (model_of s) (entry e)) × Sound s t (due_of s.owed.bids (s.owed.offers - 1))
     unfolding entered
     taken_offer q p =
         let no = ne_eqb e.side 48 q in
         let i : 1 < s.rows.count = omega (arith, s.count) in
         let u = offers-put s.rows t 0 i _ p in (
-          sym (cond-true _ _ _ (sym f)),
-          staged-put (setup_of s) s.rows t s.slots s.count _ s.owed _ u ∙ (ap (entered e) (sym no) ∙ sym (cond-true _ _ _ (sym f))),
+          f,
+          staged-put (setup_of s) s.rows t s.slots s.count _ s.owed _ u ∙ ap (entered e) (sym no),
           sound-staged s t _ _ u s.bids (omega (arith, s.offers, length_push (row s.rows 1) e.order, owes false no)),
         )

@@ -5,11 +5,11 @@ ghost use Rattle.orders.specs.Image.{BookImage};
 ghost use Rattle.orders.specs.ImageLaw.{orders_image, orders-sound};
 ghost use Rattle.orders.specs.Model.{setup_of, model_of};
 
+use crate::due::Due;
 use crate::order_store::OrderStore;
 use message::fields::{entry_fields, stat_fields};
 use message::message::{Message, Piece};
 use message::values::HeaderFields;
-use store::fault::StoreFault;
 use store::store::Store;
 
 impl<'t> Store for OrderStore<'t> {
@@ -35,15 +35,33 @@ impl<'t> Store for OrderStore<'t> {
         self.slots
     }
 
-    fn fits(&self, slot: usize, m: &Message) -> Result<bool, StoreFault> {
-        if slot >= self.slots() {
-            return Err(StoreFault::Slot(slot));
-        }
-        Ok(self.fits_at(slot, m))
+    fn fits_at(&self, slot: usize, m: &Message) -> bool {
+        self.rows.fits_in(self.actions, slot + 1, m)
+    }
+
+    fn apply_at(&mut self, slot: usize, m: &Message) -> bool {
+        let actions = self.actions;
+        self.rows.apply_in(actions, slot + 1, m)
+    }
+
+    fn freshen_at(&mut self, slot: usize) {
+        self.rows.clear_book(slot + 1);
+    }
+
+    fn adopt_at(&mut self, slot: usize) {
+        self.rows.copy_book(0, slot + 1);
     }
 
     fn fits_header(&self, h: &HeaderFields) -> bool {
         h.bids <= self.rows.depth as u64 && h.offers <= self.rows.depth as u64
+    }
+
+    fn begin(&mut self, h: &HeaderFields) {
+        self.rows.clear_book(0);
+        self.owed = Due {
+            bids: h.bids as usize,
+            offers: h.offers as usize,
+        };
     }
 
     fn fits_piece(&self, p: &Piece) -> bool {
@@ -52,64 +70,21 @@ impl<'t> Store for OrderStore<'t> {
                 Some(e) => self.fits_entry(&e),
                 None => false,
             },
-            Piece::Stat(l, part) => match stat_fields(l, part) {
-                Some(_) => true,
-                None => false,
-            },
+            Piece::Stat(l, part) => stat_fields(l, part).is_some(),
         }
     }
 
-    fn apply(&mut self, slot: usize, m: &Message) -> Result<(), StoreFault> {
-        if slot >= self.slots() {
-            return Err(StoreFault::Slot(slot));
-        }
-        if self.apply_at(slot, m) {
-            return Ok(());
-        }
-        Err(StoreFault::Unfit)
-    }
-
-    fn freshen(&mut self, slot: usize) -> Result<(), StoreFault> {
-        if slot >= self.slots() {
-            return Err(StoreFault::Slot(slot));
-        }
-        self.freshen_at(slot);
-        Ok(())
-    }
-
-    fn stage(&mut self, h: &HeaderFields) -> Result<(), StoreFault> {
-        if !self.fits_header(h) {
-            return Err(StoreFault::Unfit);
-        }
-        self.begin(h);
-        Ok(())
-    }
-
-    fn add(&mut self, p: &Piece) -> Result<(), StoreFault> {
+    fn take(&mut self, p: &Piece) -> bool {
         match *p {
             Piece::Entry(l, part) => match entry_fields(l, part) {
-                Some(e) => self.add_entry(&e),
-                None => Err(StoreFault::Unfit),
+                Some(e) => self.take_entry(&e),
+                None => false,
             },
-            Piece::Stat(l, part) => match stat_fields(l, part) {
-                Some(_) => Ok(()),
-                None => Err(StoreFault::Unfit),
-            },
+            Piece::Stat(_, _) => self.fits_piece(p),
         }
     }
 
     fn whole(&self) -> bool {
         self.owed.bids == 0 && self.owed.offers == 0
-    }
-
-    fn adopt(&mut self, slot: usize) -> Result<(), StoreFault> {
-        if slot >= self.slots() {
-            return Err(StoreFault::Slot(slot));
-        }
-        if !self.whole() {
-            return Err(StoreFault::Owed);
-        }
-        self.adopt_at(slot);
-        Ok(())
     }
 }

@@ -1,6 +1,6 @@
-ghost use Rattle.std.specs.Prelude.{◌≡◌, ◌-◌, cond, Ok, Err};
+ghost use Rattle.std.specs.Prelude.{◌≡◌, if◌then◌else◌};
 ghost use Rattle.message.specs.Meaning.{entry};
-ghost use Rattle.store.specs.Calls.{add_answer, added};
+ghost use Rattle.store.specs.Calls.{with_piece};
 ghost use Rattle.orders.specs.Kind.{orders};
 ghost use Rattle.orders.specs.Staged.{fits_entry};
 ghost use Rattle.orders.specs.Model.{setup_of, model_of};
@@ -8,7 +8,6 @@ ghost use Rattle.orders.specs.Rows.{book_at};
 
 use crate::order_store::OrderStore;
 use message::values::EntryFields;
-use store::fault::StoreFault;
 
 // An entry of a snapshot stands at its side's next position while one is owed.
 impl<'t> OrderStore<'t> {
@@ -22,13 +21,13 @@ impl<'t> OrderStore<'t> {
         }
     }
 
-    pub(crate) fn add_entry(&mut self, e: &EntryFields) -> Result<(), StoreFault>
-        ensures answer { result ≡ add_answer (orders (setup_of self.old)) (model_of self.old) (entry e.now) }
-        ensures after { model_of self.new ≡ added (orders (setup_of self.old)) (model_of self.old) (entry e.now) }
+    pub(crate) fn take_entry(&mut self, e: &EntryFields) -> bool
+        ensures fits { result ≡ fits_entry (book_at self.old.rows 0) self.old.owed e.now }
+        ensures after { model_of self.new ≡ (if result then with_piece (orders (setup_of self.old)) (model_of self.old) (entry e.now) else model_of self.old) }
         ensures stays { setup_of self.new ≡ setup_of self.old }
     {
         if !self.fits_entry(e) {
-            return Err(StoreFault::Unfit);
+            return false;
         }
         if e.side == 48 {
             self.rows.push(0, e.order);
@@ -37,6 +36,6 @@ impl<'t> OrderStore<'t> {
             self.rows.push(1, e.order);
             self.owed.offers -= 1;
         }
-        Ok(())
+        true
     }
 }

@@ -1,6 +1,5 @@
 #![tactic(auto)]
 
-pub mod at_slot;
 pub mod book_store;
 pub mod books;
 pub mod calls;

@@ -10,7 +10,6 @@ use crate::panel_store::PanelStore;
 use message::fields::{entry_fields, stat_fields};
 use message::message::{Message, Piece};
 use message::values::HeaderFields;
-use store::fault::StoreFault;
 use store::store::Store;
 
 impl Store for PanelStore {
@@ -36,81 +35,49 @@ impl Store for PanelStore {
         64
     }
 
-    fn fits(&self, slot: usize, m: &Message) -> Result<bool, StoreFault> {
-        if slot >= self.slots() {
-            return Err(StoreFault::Slot(slot));
-        }
-        Ok(fits_message(m))
+    fn fits_at(&self, _: usize, m: &Message) -> bool {
+        fits_message(m)
+    }
+
+    fn apply_at(&mut self, slot: usize, m: &Message) -> bool {
+        self.cells.apply_at(slot + 1, m)
+    }
+
+    fn freshen_at(&mut self, slot: usize) {
+        self.cells.clear_at(slot + 1);
+    }
+
+    fn adopt_at(&mut self, slot: usize) {
+        self.cells.copy_to(0, slot + 1);
     }
 
     fn fits_header(&self, h: &HeaderFields) -> bool {
         h.stats <= self.cells.count as u64
     }
 
+    fn begin(&mut self, h: &HeaderFields) {
+        self.cells.clear_at(0);
+        self.owed = h.stats as usize;
+    }
+
     fn fits_piece(&self, p: &Piece) -> bool {
         match *p {
-            Piece::Entry(l, part) => match entry_fields(l, part) {
-                Some(_) => true,
-                None => false,
-            },
-            Piece::Stat(l, part) => match stat_fields(l, part) {
-                Some(_) => 0 < self.owed,
-                None => false,
-            },
+            Piece::Entry(l, part) => entry_fields(l, part).is_some(),
+            Piece::Stat(l, part) => stat_fields(l, part).is_some() && 0 < self.owed,
         }
     }
 
-    fn apply(&mut self, slot: usize, m: &Message) -> Result<(), StoreFault> {
-        if slot >= self.slots() {
-            return Err(StoreFault::Slot(slot));
-        }
-        if self.apply_in(slot, m) {
-            return Ok(());
-        }
-        Err(StoreFault::Unfit)
-    }
-
-    fn freshen(&mut self, slot: usize) -> Result<(), StoreFault> {
-        if slot >= self.slots() {
-            return Err(StoreFault::Slot(slot));
-        }
-        self.freshen_at(slot);
-        Ok(())
-    }
-
-    fn stage(&mut self, h: &HeaderFields) -> Result<(), StoreFault> {
-        if !self.fits_header(h) {
-            return Err(StoreFault::Unfit);
-        }
-        self.begin(h);
-        Ok(())
-    }
-
-    fn add(&mut self, p: &Piece) -> Result<(), StoreFault> {
+    fn take(&mut self, p: &Piece) -> bool {
         match *p {
-            Piece::Entry(l, part) => match entry_fields(l, part) {
-                Some(_) => Ok(()),
-                None => Err(StoreFault::Unfit),
-            },
+            Piece::Entry(_, _) => self.fits_piece(p),
             Piece::Stat(l, part) => match stat_fields(l, part) {
-                Some(f) => self.add_number(&f),
-                None => Err(StoreFault::Unfit),
+                Some(f) => self.take_number(&f),
+                None => false,
             },
         }
     }
 
     fn whole(&self) -> bool {
         self.owed == 0
-    }
-
-    fn adopt(&mut self, slot: usize) -> Result<(), StoreFault> {
-        if slot >= self.slots() {
-            return Err(StoreFault::Slot(slot));
-        }
-        if !self.whole() {
-            return Err(StoreFault::Owed);
-        }
-        self.adopt_at(slot);
-        Ok(())
     }
 }

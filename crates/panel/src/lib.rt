@@ -1,6 +1,5 @@
 #![tactic(auto)]
 
-pub mod at_slot;
 pub mod calls;
 pub mod cells;
 pub mod listed;

@@ -1,7 +1,7 @@
-ghost use Rattle.std.specs.Prelude.{◌≡◌, ◌<◌, if◌then◌else◌};
+ghost use Rattle.std.specs.Prelude.{◌≡◌, ◌<◌, if◌then◌else◌, nat_lt};
 ghost use Rattle.message.specs.Views.{meant};
 ghost use Rattle.message.specs.Meaning.{number};
-ghost use Rattle.store.specs.Calls.{add_answer, added};
+ghost use Rattle.store.specs.Calls.{with_piece};
 ghost use Rattle.panel.specs.Kind.{panel, fits_panel, after_panel};
 ghost use Rattle.panel.specs.Cells.{Held, PutsPanel, templates_of, panel_at};
 ghost use Rattle.panel.specs.Model.{setup_of, model_of};
@@ -11,7 +11,6 @@ use crate::panel_store::PanelStore;
 use message::fields::{delete_fields, mass_fields, order_fields, stat_fields};
 use message::message::Message;
 use message::values::StatFields;
-use store::fault::StoreFault;
 
 // Whether a message fits a panel: it misses no field.
 pub(crate) fn fits_message(m: &Message) -> bool
@@ -78,16 +77,16 @@ impl Cells {
 
 impl PanelStore {
     // Adds a number to the staged panel while one is owed.
-    pub(crate) fn add_number(&mut self, f: &StatFields) -> Result<(), StoreFault>
-        ensures answer { result ≡ add_answer (panel (setup_of self.old)) (model_of self.old) (number f.now) }
-        ensures after { model_of self.new ≡ added (panel (setup_of self.old)) (model_of self.old) (number f.now) }
+    pub(crate) fn take_number(&mut self, f: &StatFields) -> bool
+        ensures fits { result ≡ nat_lt 0 self.old.owed }
+        ensures after { model_of self.new ≡ (if result then with_piece (panel (setup_of self.old)) (model_of self.old) (number f.now) else model_of self.old) }
         ensures stays { setup_of self.new ≡ setup_of self.old }
     {
         if self.owed == 0 {
-            return Err(StoreFault::Unfit);
+            return false;
         }
         self.cells.note_at(0, f);
         self.owed -= 1;
-        Ok(())
+        true
     }
 }

@@ -56,8 +56,12 @@ module _ {V O : Type 0} (K : Kind V O) (s : Model V O) where
   abbrev pub add_answer : Part → Result (Unit {0}) StoreFault
   add_answer p = unless Unfit (takes_piece p)
 
+  -- the staged value after a piece, and what is owed after it
+  abbrev pub with_piece : Part → Model V O
+  with_piece p = with_staged (K.put s.staged s.owed p) (K.less s.owed p)
+
   abbrev pub added : Part → Model V O
-  added p = cond (takes_piece p) (with_staged (K.put s.staged s.owed p) (K.less s.owed p)) s
+  added p = cond (takes_piece p) (with_piece p) s
 
   abbrev pub is_whole : Bool
   is_whole = K.whole s.owed

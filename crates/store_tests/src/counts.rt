@@ -9,7 +9,6 @@ use crate::tally::Tally;
 use message::fields::{delete_fields, entry_fields, mass_fields, order_fields, stat_fields};
 use message::message::{Message, Piece};
 use message::values::HeaderFields;
-use store::fault::StoreFault;
 use store::store::Store;
 
 // The count after a message that fits.
@@ -78,89 +77,61 @@ impl Store for Tally {
         4
     }
 
-    fn fits(&self, slot: usize, m: &Message) -> Result<bool, StoreFault> {
-        if slot >= 4 {
-            return Err(StoreFault::Slot(slot));
-        }
+    fn fits_at(&self, slot: usize, m: &Message) -> bool {
+        counted(self.slots[slot], m).is_some()
+    }
+
+    fn apply_at(&mut self, slot: usize, m: &Message) -> bool {
         match counted(self.slots[slot], m) {
-            Some(_) => Ok(true),
-            None => Ok(false),
+            Some(n) => {
+                self.slots[slot] = n;
+                true
+            }
+            None => false,
         }
+    }
+
+    fn freshen_at(&mut self, slot: usize) {
+        self.slots[slot] = 0;
+    }
+
+    fn adopt_at(&mut self, slot: usize) {
+        self.slots[slot] = self.staged;
     }
 
     fn fits_header(&self, h: &HeaderFields) -> bool {
         h.stats <= 1000
     }
 
-    fn fits_piece(&self, p: &Piece) -> bool {
-        match *p {
-            Piece::Entry(l, part) => match entry_fields(l, part) {
-                Some(_) => true,
-                None => false,
-            },
-            Piece::Stat(l, part) => match stat_fields(l, part) {
-                Some(_) => 0 < self.owed && self.staged < 1000,
-                None => false,
-            },
-        }
-    }
-
-    fn apply(&mut self, slot: usize, m: &Message) -> Result<(), StoreFault> {
-        if slot >= 4 {
-            return Err(StoreFault::Slot(slot));
-        }
-        match counted(self.slots[slot], m) {
-            Some(n) => {
-                self.slots[slot] = n;
-                Ok(())
-            }
-            None => Err(StoreFault::Unfit),
-        }
-    }
-
-    fn freshen(&mut self, slot: usize) -> Result<(), StoreFault> {
-        if slot >= 4 {
-            return Err(StoreFault::Slot(slot));
-        }
-        self.slots[slot] = 0;
-        Ok(())
-    }
-
-    fn stage(&mut self, h: &HeaderFields) -> Result<(), StoreFault> {
-        if h.stats > 1000 {
-            return Err(StoreFault::Unfit);
-        }
+    fn begin(&mut self, h: &HeaderFields) {
         self.staged = 0;
         self.owed = h.stats as u32;
-        Ok(())
     }
 
-    fn add(&mut self, p: &Piece) -> Result<(), StoreFault> {
+    fn fits_piece(&self, p: &Piece) -> bool {
+        match *p {
+            Piece::Entry(l, part) => entry_fields(l, part).is_some(),
+            Piece::Stat(l, part) => {
+                stat_fields(l, part).is_some() && 0 < self.owed && self.staged < 1000
+            }
+        }
+    }
+
+    fn take(&mut self, p: &Piece) -> bool {
         if !self.fits_piece(p) {
-            return Err(StoreFault::Unfit);
+            return false;
         }
         match *p {
-            Piece::Entry(_, _) => Ok(()),
+            Piece::Entry(_, _) => true,
             Piece::Stat(_, _) => {
                 self.staged = self.staged.saturating_add(1);
                 self.owed = self.owed.saturating_sub(1);
-                Ok(())
+                true
             }
         }
     }
 
     fn whole(&self) -> bool {
         self.owed == 0
-    }
-
-    fn adopt(&mut self, slot: usize) -> Result<(), StoreFault> {
-        if slot >= 4 {
-            return Err(StoreFault::Slot(slot));
-        }
-        if self.owed != 0 {
-            return Err(StoreFault::Owed);
-        }
-        self.slots[slot] = self.staged;
-        Ok(())
     }
 }

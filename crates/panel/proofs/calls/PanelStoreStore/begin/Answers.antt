@@ -1,5 +1,5 @@
 use Rattle.panel.proofs.Slots.{staged-put, same-setup}
-use Rattle.panel.proofs.panel_store.PanelStore.begin.Goals as goal
+use Rattle.panel.proofs.calls.PanelStoreStore.begin.Goals as goal
 
 pub returns : goal.returns
 returns c =

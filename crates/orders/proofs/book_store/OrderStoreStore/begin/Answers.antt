@@ -1,7 +1,7 @@
 use Rattle.orders.specs.Model.{setup_of}
 use Rattle.orders.proofs.Slots.{staged-put}
 use Rattle.orders.proofs.Answering.{same-setup}
-use Rattle.orders.proofs.order_store.OrderStore.begin.Goals as goal
+use Rattle.orders.proofs.book_store.OrderStoreStore.begin.Goals as goal
 
 pub returns : goal.returns
 returns c =

@@ -4,7 +4,7 @@ use Rattle.orders.specs.Kind.{after_book}
 use Rattle.orders.specs.Model.{setup_of}
 use Rattle.orders.proofs.Slots.{sound_slot}
 use Rattle.orders.proofs.Answering.{in_slots, fits_slot, put_or_not, same-setup}
-use Rattle.orders.proofs.order_store.OrderStore.apply_at.Goals as goal
+use Rattle.orders.proofs.book_store.OrderStoreStore.apply_at.Goals as goal
 
 pub invariant_of-self : goal.invariant_of-self
 invariant_of-self c =

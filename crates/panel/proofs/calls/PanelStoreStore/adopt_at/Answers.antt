@@ -1,6 +1,6 @@
 use Rattle.std.proofs.Common.{rules}
 use Rattle.panel.proofs.Slots.{in_slots, slot_put, same-setup}
-use Rattle.panel.proofs.panel_store.PanelStore.adopt_at.Goals as goal
+use Rattle.panel.proofs.calls.PanelStoreStore.adopt_at.Goals as goal
 
 pub overflow_add-slot : goal.overflow_add-slot
 overflow_add-slot c = let i = in_slots c.args.self.now c.args.slot c.requires in search rules

@@ -3,7 +3,7 @@ use Rattle.message.specs.Views.{meant}
 use Rattle.panel.specs.Kind.{after_panel}
 use Rattle.panel.specs.Model.{setup_of}
 use Rattle.panel.proofs.Slots.{in_slots, put_or_not, same-setup}
-use Rattle.panel.proofs.panel_store.PanelStore.apply_in.Goals as goal
+use Rattle.panel.proofs.calls.PanelStoreStore.apply_at.Goals as goal
 
 pub overflow_add-slot : goal.overflow_add-slot
 overflow_add-slot c = let i = in_slots c.args.self.now c.args.slot c.requires in search rules
