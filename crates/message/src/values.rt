@@ -1,5 +1,5 @@
 // an order of a book; a price of -2^63 is no price
-#[derive(Clone, Copy, Debug, PartialEq, Eq)]
+#[derive(Clone, Copy, Debug, Default, PartialEq, Eq)]
 pub struct Order {
     pub price: i64,
     pub size: u64,

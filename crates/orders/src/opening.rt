@@ -31,6 +31,14 @@ fn slots_in(depth: usize, room: usize) -> usize
     (room / (2 * depth) - 1).min(64)
 }
 
+// How many slots a table of so many orders has, where books of `depth` orders a side can be kept in it.
+pub fn count_slots(depth: usize, room: usize) -> Result<usize, StoreFault>
+    ensures { result ≡ (if may_open depth room then Ok (slots_in depth room) else Err Opening) }
+{
+    check_opening(depth, room)?;
+    Ok(slots_in(depth, room))
+}
+
 // Rows with no orders, whatever the table held.
 fn empty_rows<'t>(table: &'t mut [Order], depth: usize, count: usize) -> Rows<'t>
     requires { (count ≤ 130) × (count * depth ≤ length table.old) }
