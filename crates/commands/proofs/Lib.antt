@@ -1,1 +1,3 @@
 pub mod Figures
+pub mod Numbers
+pub mod Words

@@ -1,4 +1,5 @@
 pub mod Decimal
+pub mod Tables
 pub mod Verbs
 pub mod Spoken
 pub mod Digest

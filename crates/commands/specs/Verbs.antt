@@ -1,13 +1,8 @@
 -- The first word of a command.
-use Rattle.std.specs.Prelude.{ℕ, cond, List, [], ◌∷◌, Some, None, codes, Option}
-use Rattle.std.specs.Str.{bytes_eq}
+use Rattle.std.specs.Prelude.{ℕ, List, [], ◌∷◌, codes, Option}
+use Rattle.commands.specs.Tables.{lookup}
 use Rattle.commands.specs.declared.verb.Verb.{Verb}
 use Rattle.commands.specs.declared.verb.Verb.TheVariants.{Sheet, Store, Open, Shelf, Poke, Check, Inc, Join, Snap, Leave, Ask, Bids, Offers, Stats, Shelfsum}
-
--- the verb beside a word in a table
-abbrev pub lookup : List (List ℕ × Verb) → List ℕ → Option Verb
-lookup [] word = None
-lookup (e ∷ es) word = cond (bytes_eq word e.0) (Some e.1) (lookup es word)
 
 -- of a command that is one word
 abbrev pub lone_verb : List ℕ → Option Verb

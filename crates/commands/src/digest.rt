@@ -16,9 +16,5 @@ fn mix(digest: u64, byte: u8) -> u64
 pub fn digest(bytes: &[u8]) -> u64
     ensures { result ≡ digest_of bytes.now }
 {
-    let mut sum = BASIS;
-    for b in bytes {
-        sum = mix(sum, *b);
-    }
-    sum
+    bytes.iter().fold(BASIS, |sum, b| mix(sum, *b))
 }

@@ -1,18 +1,17 @@
-ghost use Rattle.std.specs.Prelude.{◌≡◌};
-ghost use Rattle.commands.specs.Decimal.{figure, decimal_of, up_to};
+ghost use Rattle.std.specs.Prelude.{◌≡◌, IfOk};
+ghost use Rattle.std.specs.Option.{option_map};
+ghost use Rattle.commands.specs.Decimal.{figure, decimal_of, numbers_of, ReadAs};
+
+use std::alloc::{AllocError, Global};
 
 // One figure more behind n.
 fn one_figure(n: u64, d: u8) -> Option<u64>
     ensures { result ≡ figure n d }
 {
-    if d < b'0' || d > b'9' {
+    if !d.is_ascii_digit() {
         return None;
     }
-    let m = u128::from(n) * 10 + u128::from(d - b'0');
-    if m > 18446744073709551615 {
-        return None;
-    }
-    Some(m as u64)
+    n.checked_mul(10)?.checked_add(u64::from(d - b'0'))
 }
 
 // The number that a word of figures stands for, where it has 64 bits.
@@ -22,34 +21,32 @@ pub fn decimal(word: &[u8]) -> Option<u64>
     if word.is_empty() {
         return None;
     }
-    let mut n: u64 = 0;
+    let mut n = 0;
     for d in word {
-        let Some(m) = one_figure(n, *d) else {
-            return None;
-        };
-        n = m;
+        n = one_figure(n, *d)?;
     }
     Some(n)
 }
 
-// The number that a word of figures stands for, where it has 8 bits.
-pub fn decimal_8(word: &[u8]) -> Option<u8>
-    ensures { result ≡ up_to 255 (decimal_of word.now) }
+// The number that a word of figures stands for, where a type holds it.
+pub fn decimal_in<T: TryFrom<u64>>(word: &[u8]) -> Option<T>
+where
+    T::Error: Drop,
+    ensures { ReadAs T.try_from_gives (decimal_of word.now) result }
 {
-    let n = decimal(word)?;
-    if n > 255 {
-        return None;
-    }
-    Some(n as u8)
+    T::try_from(decimal(word)?).ok()
 }
 
-// The number that a word of figures stands for, where it has 16 bits.
-pub fn decimal_16(word: &[u8]) -> Option<u16>
-    ensures { result ≡ up_to 65535 (decimal_of word.now) }
+// The numbers that the words of a text stand for, which a byte parts; none where a word is no number.
+pub fn numbers(heap: Global, text: &[u8], separator: u8) -> Result<Option<Vec<u64>>, AllocError>
+    ensures { IfOk result (λ found. option_map (λ v. v.items) found ≡ numbers_of separator text.now) }
 {
-    let n = decimal(word)?;
-    if n > 65535 {
-        return None;
+    let mut numbers = Vec::new(heap);
+    for word in text.split(|b| *b == separator) {
+        let Some(number) = decimal(word) else {
+            return Ok(None);
+        };
+        numbers.push(number)?;
     }
-    Some(n as u16)
+    Ok(Some(numbers))
 }

@@ -3,8 +3,8 @@ ghost use Rattle.std.specs.Option.{option_map};
 ghost use Rattle.commands.specs.Spoken.{said, lone, worded, store_of, table_of, poke_of, open_of, channel_of, version_of, spoken};
 
 use crate::command::Command;
-use crate::number::{decimal, decimal_8, decimal_16};
-use crate::verb::{Verb, lone_verb, same, worded_verb};
+use crate::number::{decimal, decimal_in};
+use crate::verb::{Verb, lone_verb, worded_verb};
 use sheet_text::text::cut;
 
 // DEPTH TABLE
@@ -22,20 +22,9 @@ fn store<'a>(text: &'a [u8]) -> Option<Command<'a>>
     ensures { option_map said result ≡ store_of text.now }
 {
     match cut(text, b' ') {
-        None => {
-            if same(text, b"panel") {
-                Some(Command::StorePanel)
-            } else {
-                None
-            }
-        }
-        Some((word, rest)) => {
-            if same(word, b"orders") {
-                table(rest)
-            } else {
-                None
-            }
-        }
+        None if text == b"panel".as_slice() => Some(Command::StorePanel),
+        Some((b"orders", rest)) => table(rest),
+        _ => None,
     }
 }
 
@@ -54,11 +43,11 @@ fn version<'a>(own: u64, channel: u8, text: &'a [u8]) -> Option<Command<'a>>
 {
     match cut(text, b' ') {
         None => {
-            let version = decimal_16(text)?;
+            let version = decimal_in(text)?;
             Some(Command::Open(own, channel, version, None))
         }
         Some((word, ids)) => {
-            let version = decimal_16(word)?;
+            let version = decimal_in(word)?;
             Some(Command::Open(own, channel, version, Some(ids)))
         }
     }
@@ -69,7 +58,7 @@ fn channel<'a>(own: u64, text: &'a [u8]) -> Option<Command<'a>>
     ensures { option_map said result ≡ channel_of own text.now }
 {
     let (word, rest) = cut(text, b' ')?;
-    let channel = decimal_8(word)?;
+    let channel = decimal_in(word)?;
     version(own, channel, rest)
 }
 

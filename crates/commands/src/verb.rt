@@ -1,5 +1,4 @@
 ghost use Rattle.std.specs.Prelude.{◌≡◌};
-ghost use Rattle.std.specs.Str.{bytes_eq};
 ghost use Rattle.commands.specs.Verbs.{lone_verb, verb_of};
 
 // the first word of a command
@@ -22,25 +21,15 @@ pub enum Verb {
     Shelfsum,
 }
 
-// Whether two words are the same.
-pub fn same(a: &[u8], b: &[u8]) -> bool
-    ensures { result ≡ bytes_eq a.now b.now }
-{
-    a == b
-}
-
 // The verb of a command that is one word.
 pub(crate) fn lone_verb(word: &[u8]) -> Option<Verb>
     ensures { result ≡ lone_verb word.now }
 {
-    if same(word, b"join") {
-        Some(Verb::Join)
-    } else if same(word, b"leave") {
-        Some(Verb::Leave)
-    } else if same(word, b"shelfsum") {
-        Some(Verb::Shelfsum)
-    } else {
-        None
+    match word {
+        b"join" => Some(Verb::Join),
+        b"leave" => Some(Verb::Leave),
+        b"shelfsum" => Some(Verb::Shelfsum),
+        _ => None,
     }
 }
 
@@ -48,31 +37,19 @@ pub(crate) fn lone_verb(word: &[u8]) -> Option<Verb>
 pub(crate) fn worded_verb(word: &[u8]) -> Option<Verb>
     ensures { result ≡ verb_of word.now }
 {
-    if same(word, b"sheet") {
-        Some(Verb::Sheet)
-    } else if same(word, b"check") {
-        Some(Verb::Check)
-    } else if same(word, b"store") {
-        Some(Verb::Store)
-    } else if same(word, b"open") {
-        Some(Verb::Open)
-    } else if same(word, b"shelf") {
-        Some(Verb::Shelf)
-    } else if same(word, b"poke") {
-        Some(Verb::Poke)
-    } else if same(word, b"inc") {
-        Some(Verb::Inc)
-    } else if same(word, b"snap") {
-        Some(Verb::Snap)
-    } else if same(word, b"ask") {
-        Some(Verb::Ask)
-    } else if same(word, b"bids") {
-        Some(Verb::Bids)
-    } else if same(word, b"offers") {
-        Some(Verb::Offers)
-    } else if same(word, b"stats") {
-        Some(Verb::Stats)
-    } else {
-        None
+    match word {
+        b"sheet" => Some(Verb::Sheet),
+        b"check" => Some(Verb::Check),
+        b"store" => Some(Verb::Store),
+        b"open" => Some(Verb::Open),
+        b"shelf" => Some(Verb::Shelf),
+        b"poke" => Some(Verb::Poke),
+        b"inc" => Some(Verb::Inc),
+        b"snap" => Some(Verb::Snap),
+        b"ask" => Some(Verb::Ask),
+        b"bids" => Some(Verb::Bids),
+        b"offers" => Some(Verb::Offers),
+        b"stats" => Some(Verb::Stats),
+        _ => None,
     }
 }

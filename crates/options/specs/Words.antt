@@ -1,6 +1,8 @@
 -- The words of a command line: what each stands for, and its place among the settings and flags.
-use Rattle.std.specs.Prelude.{ℕ, cond, List, [], ◌∷◌, take, codes}
+use Rattle.std.specs.Prelude.{ℕ, cond, List, [], ◌∷◌, take, codes, Option}
+use Rattle.std.specs.Option.{option_map_or}
 use Rattle.std.specs.Str.{bytes_eq}
+use Rattle.commands.specs.Tables.{lookup}
 use Rattle.options.specs.declared.setting.Setting.{Setting}
 use Rattle.options.specs.declared.setting.Setting.TheVariants.{Sheet, Capture, Channel, Version, Incremental, Snapshot, Watch, Depth, Out, Coverage}
 use Rattle.options.specs.declared.setting.Flag.{Flag}
@@ -25,29 +27,23 @@ flag_place Panel = 0
 flag_place Progress = 1
 flag_place Help = 2
 
--- the meaning beside a word in a table, or else this one
-abbrev pub lookup : List (List ℕ × Word) → Word → List ℕ → Word
-lookup [] others word = others
-lookup (e ∷ es) others word = cond (bytes_eq word e.0) e.1 (lookup es others word)
+-- the words that name settings
+abbrev pub settings : List (List ℕ × Setting)
+settings =
+    (codes "--channel", Channel) ∷ (codes "--version", Version) ∷ (codes "--incremental", Incremental) ∷ (codes "--snapshot", Snapshot)
+    ∷ (codes "--watch", Watch) ∷ (codes "--depth", Depth) ∷ (codes "--out", Out) ∷ (codes "--coverage", Coverage) ∷ []
+
+-- the setting that a word names
+abbrev pub setting_of : List ℕ → Option Setting
+setting_of = lookup settings
+
+-- the flag that a word raises
+abbrev pub flag_of : List ℕ → Option Flag
+flag_of = lookup ((codes "--panel", Panel) ∷ (codes "--progress", Progress) ∷ (codes "--help", Help) ∷ (codes "-h", Help) ∷ [])
 
 -- a word that begins with two dashes names an option
 abbrev pub dashed : List ℕ → Word
 dashed word = cond (bytes_eq (take 2 word) (codes "--")) Unknown Plain
 
-abbrev pub help_of : List ℕ → Word
-help_of word = lookup ((codes "--help", Raises Help) ∷ (codes "-h", Raises Help) ∷ []) (dashed word) word
-
-abbrev pub flag_of : List ℕ → Word
-flag_of word = lookup ((codes "--panel", Raises Panel) ∷ (codes "--progress", Raises Progress) ∷ []) (help_of word) word
-
-abbrev pub file_of : List ℕ → Word
-file_of word = lookup ((codes "--out", Names Out) ∷ (codes "--coverage", Names Coverage) ∷ []) (flag_of word) word
-
-abbrev pub extent_of : List ℕ → Word
-extent_of word = lookup ((codes "--watch", Names Watch) ∷ (codes "--depth", Names Depth) ∷ []) (file_of word) word
-
-abbrev pub feed_of : List ℕ → Word
-feed_of word = lookup ((codes "--incremental", Names Incremental) ∷ (codes "--snapshot", Names Snapshot) ∷ []) (extent_of word) word
-
 abbrev pub word_of : List ℕ → Word
-word_of word = lookup ((codes "--channel", Names Channel) ∷ (codes "--version", Names Version) ∷ []) (feed_of word) word
+word_of word = option_map_or Names (setting_of word) (option_map_or Raises (flag_of word) (dashed word))

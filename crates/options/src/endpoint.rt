@@ -1,7 +1,7 @@
 ghost use Rattle.std.specs.Prelude.{◌≡◌};
 ghost use Rattle.options.specs.Endpoints.{address_of, endpoint_of};
 
-use commands::number::{decimal_8, decimal_16};
+use commands::number::decimal_in;
 use sheet_text::text::cut;
 
 // where packets are sent to
@@ -18,10 +18,10 @@ fn address_in(word: &[u8]) -> Option<u32>
     let (first, rest) = cut(word, b'.')?;
     let (second, rest) = cut(rest, b'.')?;
     let (third, fourth) = cut(rest, b'.')?;
-    let a = u32::from(decimal_8(first)?);
-    let b = u32::from(decimal_8(second)?);
-    let c = u32::from(decimal_8(third)?);
-    let d = u32::from(decimal_8(fourth)?);
+    let a = u32::from(decimal_in::<u8>(first)?);
+    let b = u32::from(decimal_in::<u8>(second)?);
+    let c = u32::from(decimal_in::<u8>(third)?);
+    let d = u32::from(decimal_in::<u8>(fourth)?);
     Some(((a * 256 + b) * 256 + c) * 256 + d)
 }
 
@@ -31,6 +31,6 @@ pub fn endpoint_in(word: &[u8]) -> Option<Endpoint>
 {
     let (before, after) = cut(word, b':')?;
     let address = address_in(before)?;
-    let port = decimal_16(after)?;
+    let port = decimal_in(after)?;
     Some(Endpoint { address, port })
 }

@@ -1,3 +1,6 @@
+use std::fmt;
+use std::fmt::Display;
+
 // what a word of a command line gives a value to
 #[derive(Clone, Copy, Debug, PartialEq, Eq)]
 pub enum Setting {
@@ -11,6 +14,23 @@ pub enum Setting {
     Depth,
     Out,
     Coverage,
+}
+
+impl Display for Setting {
+    fn fmt<W: fmt::Write>(&self, f: &mut fmt::Formatter<W>) -> fmt::Result {
+        f.write_str(match self {
+            Setting::Sheet => "SHEET",
+            Setting::Capture => "CAPTURE",
+            Setting::Channel => "--channel",
+            Setting::Version => "--version",
+            Setting::Incremental => "--incremental",
+            Setting::Snapshot => "--snapshot",
+            Setting::Watch => "--watch",
+            Setting::Depth => "--depth",
+            Setting::Out => "--out",
+            Setting::Coverage => "--coverage",
+        })
+    }
 }
 
 // what a word of a command line turns on

@@ -1,6 +1,6 @@
-ghost use Rattle.std.specs.Prelude.{◌≡◌, false, replicate, None, slice_index, slice_index_or};
-ghost use Rattle.options.specs.Words.{setting_place, flag_place, word_of};
-ghost use Rattle.options.specs.Taking.{is_given, plain_setting, word_answer, given_after, raised_after, awaited_after};
+ghost use Rattle.std.specs.Prelude.{◌≡◌, false, replicate, None, slice_index_or};
+ghost use Rattle.options.specs.Words.{flag_place, word_of};
+ghost use Rattle.options.specs.Taking.{place_of, is_given, plain_setting, word_answer, given_after, raised_after, awaited_after};
 
 use crate::fault::OptionFault;
 use crate::options::Options;
@@ -10,18 +10,18 @@ use crate::words::word_of;
 impl Options {
     // No word yet.
     pub fn new() -> Options
-        ensures { (result.given ≡ replicate 10 0) × (result.raised ≡ replicate 3 false) × (result.awaited ≡ None) }
+        ensures { (result.given ≡ replicate 10 None) × (result.raised ≡ replicate 3 false) × (result.awaited ≡ None) }
     {
         Options {
-            given: [0; 10],
+            given: [None; 10],
             raised: [false; 3],
             awaited: None,
         }
     }
 
-    // The place of the word that is a setting's value, or 0.
-    pub fn place_of(&self, setting: Setting) -> usize
-        ensures { result ≡ slice_index self.now.given (setting_place setting) }
+    // The place of the word that is a setting's value, where it is given.
+    pub fn place_of(&self, setting: Setting) -> Option<usize>
+        ensures { result ≡ place_of self.now.given setting }
     {
         self.given[setting.place()]
     }
@@ -36,7 +36,7 @@ impl Options {
     fn is_given(&self, setting: Setting) -> bool
         ensures { result ≡ is_given self.now.given setting }
     {
-        self.given[setting.place()] != 0
+        self.place_of(setting).is_some()
     }
 
     // The setting that a word gives a value to which names nothing.
@@ -62,7 +62,7 @@ impl Options {
     {
         if let Some(setting) = self.awaited {
             self.awaited = None;
-            self.given[setting.place()] = place;
+            self.given[setting.place()] = Some(place);
             return Ok(());
         }
         match word_of(word) {
@@ -80,7 +80,7 @@ impl Options {
             Word::Unknown => Err(OptionFault::Unknown(place)),
             Word::Plain => match self.plain_setting() {
                 Some(setting) => {
-                    self.given[setting.place()] = place;
+                    self.given[setting.place()] = Some(place);
                     Ok(())
                 }
                 None => Err(OptionFault::Extra(place)),
