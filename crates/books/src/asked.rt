@@ -1,6 +1,5 @@
 use anyhow::anyhow;
-use commands::number::{decimal, decimal_8, decimal_16};
-use commands::verb::same;
+use commands::number::{decimal, decimal_in};
 use layout::sheet::Sheet;
 use options::endpoint::{Endpoint, endpoint_in};
 use options::fault::OptionFault;
@@ -52,21 +51,6 @@ fn refuse(rt: &HostRuntime, words: &[String], place: usize, what: &str) -> anyho
     Err(anyhow!("the command line is not understood; books --help tells all options"))
 }
 
-fn setting_name(setting: Setting) -> &'static str {
-    match setting {
-        Setting::Sheet => "SHEET",
-        Setting::Capture => "CAPTURE",
-        Setting::Channel => "--channel",
-        Setting::Version => "--version",
-        Setting::Incremental => "--incremental",
-        Setting::Snapshot => "--snapshot",
-        Setting::Watch => "--watch",
-        Setting::Depth => "--depth",
-        Setting::Out => "--out",
-        Setting::Coverage => "--coverage",
-    }
-}
-
 // What the words stand for.
 fn read_words(rt: &HostRuntime, words: &[String]) -> anyhow::Result<Options> {
     let mut options = Options::new();
@@ -80,8 +64,8 @@ fn read_words(rt: &HostRuntime, words: &[String]) -> anyhow::Result<Options> {
         }
     }
     if let Some(setting) = options.awaited {
-        let name = setting_name(setting);
-        eprintln!(rt; "books: {name} wants a value behind it")?;
+        let fault = OptionFault::NoValue(setting);
+        eprintln!(rt; "books: {fault}")?;
         return Err(anyhow!("the command line is not understood; books --help tells all options"));
     }
     Ok(options)
@@ -89,35 +73,27 @@ fn read_words(rt: &HostRuntime, words: &[String]) -> anyhow::Result<Options> {
 
 // Says that the value of a setting cannot be read.
 fn no_value(rt: &HostRuntime, asked: &Asked, setting: Setting, form: &str) -> anyhow::Result<()> {
-    let name = setting_name(setting);
-    eprintln!(rt; "books: {name} wants {form}")?;
-    refuse(
-        rt,
-        asked.words.as_slice(),
-        asked.options.place_of(setting),
-        "not",
-    )
+    eprintln!(rt; "books: {setting} wants {form}")?;
+    let place = asked.options.place_of(setting).unwrap_or(0);
+    refuse(rt, asked.words.as_slice(), place, "not")
 }
 
 impl Asked {
     // The word that is a setting's value, where it is given.
     pub fn value(&self, setting: Setting) -> Option<&str> {
-        let place = self.options.place_of(setting);
-        if place == 0 || place >= self.words.len() {
-            return None;
-        }
-        Some(self.words[place].as_str())
+        let place = self.options.place_of(setting)?;
+        Some(self.words.get(place)?.as_str())
     }
 
     fn read_numbers(&mut self, rt: &HostRuntime) -> anyhow::Result<()> {
         if let Some(word) = self.value(Setting::Channel) {
-            self.channel = decimal_8(word.as_bytes());
+            self.channel = decimal_in(word.as_bytes());
             if self.channel.is_none() {
                 no_value(rt, self, Setting::Channel, "a number up to 255")?;
             }
         }
         if let Some(word) = self.value(Setting::Version) {
-            self.version = decimal_16(word.as_bytes());
+            self.version = decimal_in(word.as_bytes());
             if self.version.is_none() {
                 no_value(rt, self, Setting::Version, "a number up to 65534")?;
             }
@@ -148,7 +124,7 @@ impl Asked {
             }
         }
         if let Some(word) = self.value(Setting::Snapshot) {
-            if same(word.as_bytes(), b"none") {
+            if word == "none" {
                 self.snapshot = Loop::Absent;
             } else {
                 match endpoint_in(word.as_bytes()) {
@@ -207,7 +183,7 @@ pub fn read_command(rt: &HostRuntime) -> anyhow::Result<Asked> {
     if options.is_raised(Flag::Help) {
         return Ok(asked);
     }
-    if options.place_of(Setting::Capture) == 0 {
+    if options.place_of(Setting::Capture).is_none() {
         return Err(anyhow!("usage: books SHEET CAPTURE [options]; books --help tells all"));
     }
     asked.read_numbers(rt)?;
