@@ -61,12 +61,7 @@ pub fn entry_reach(layout: &Layout) -> usize
     ensures { result ≡ entry_reach layout.now }
 {
     match layout {
-        Layout::Order(_) => 0,
-        Layout::Delete(_) => 0,
-        Layout::Mass(_) => 0,
-        Layout::Empty(_) => 0,
-        Layout::Stat(_) => 0,
-        Layout::Header(_) => 0,
         Layout::Entries(l) => group_reach(l),
+        _ => 0,
     }
 }
