@@ -1,9 +1,10 @@
 #![tactic(auto)]
 
-ghost use Rattle.std.specs.Prelude.{◌≡◌, true, false, [], ◌++◌, length, IfOk, Some, None, MatchOption};
+ghost use Rattle.std.specs.Prelude.{◌≡◌, IfOk, vec_items};
+ghost use Rattle.std.specs.Option.{option_map};
 ghost use Rattle.hex_digits.specs.Hex.{digit_of, byte_of, digits_of, word_bytes};
 
-use std::alloc::AllocError;
+use std::alloc::{AllocError, Global};
 
 fn digit(c: u8) -> Option<u8>
     ensures { result ≡ digit_of c }
@@ -24,37 +25,29 @@ fn byte(a: u8, b: u8) -> Option<u8>
     Some(x * 16 + y)
 }
 
-// Fills `out` with the bytes that a word stands for; false, and no byte, where it stands for none.
-pub fn decode(word: &[u8], out: &mut Vec<u8>) -> Result<bool, AllocError>
-    ensures { IfOk result (λ ok. MatchOption (word_bytes word.now) ((ok ≡ false) × (out.new.items ≡ [])) (λ bs. (ok ≡ true) × (out.new.items ≡ bs))) }
+// The bytes that a word stands for, where it stands for some: digits, at least two, or a lone `-` for no byte.
+pub fn decode(heap: Global, word: &[u8]) -> Result<Option<Vec<u8>>, AllocError>
+    ensures { IfOk result (λ bytes. option_map vec_items bytes ≡ word_bytes word.now) }
 {
-    out.clear();
-    if word.is_empty() {
-        return Ok(false);
+    match word {
+        b"-" => Ok(Some(Vec::new(heap))),
+        [] | [_] => Ok(None),
+        _ => digits(heap, word),
     }
-    if word.len() == 1 {
-        return Ok(word[0] == b'-');
-    }
-    digits(word, out)
 }
 
-// The bytes of an even number of digits, behind those that `out` has; none at all where they are no such digits.
-fn digits(word: &[u8], out: &mut Vec<u8>) -> Result<bool, AllocError>
-    requires { out.old.items ≡ [] }
-    ensures { IfOk result (λ ok. MatchOption (digits_of word.now) ((ok ≡ false) × (out.new.items ≡ [])) (λ bs. (ok ≡ true) × (out.new.items ≡ bs))) }
+// The bytes of an even number of digits.
+fn digits(heap: Global, word: &[u8]) -> Result<Option<Vec<u8>>, AllocError>
+    ensures { IfOk result (λ bytes. option_map vec_items bytes ≡ digits_of word.now) }
 {
-    let mut i = 0;
-    while i + 1 < word.len() {
-        let Some(b) = byte(word[i], word[i + 1]) else {
-            out.clear();
-            return Ok(false);
+    let mut bytes = Vec::with_capacity(heap, word.len() / 2)?;
+    let mut left = word;
+    while let [a, b, rest @ ..] = left {
+        let Some(byte) = byte(*a, *b) else {
+            return Ok(None);
         };
-        out.push(b)?;
-        i += 2;
+        bytes.push(byte)?;
+        left = rest;
     }
-    if i < word.len() {
-        out.clear();
-        return Ok(false);
-    }
-    Ok(true)
+    Ok(left.is_empty().then_some(bytes))
 }

@@ -149,9 +149,10 @@ fn answer_shelf(
             writeln!(out, "shelf {length}")?;
         }
         Command::Poke(at, word) => {
-            if !hex_digits::decode(word, &mut session.bytes)?
-                || !poke(shelf.as_mut_slice(), at, session.bytes.as_slice())
-            {
+            let Some(bytes) = hex_digits::decode(session.heap, word)? else {
+                return Ok(Done::Unknown);
+            };
+            if !poke(shelf.as_mut_slice(), at, bytes.as_slice()) {
                 return Ok(Done::Unknown);
             }
             writeln!(out, "poked")?;
@@ -204,7 +205,7 @@ fn take_line<S: Store + Shows>(
     }
     let command = parse(line);
     if let Some(c) = command {
-        if waiting::add(tape, &c, &mut session.bytes)? {
+        if waiting::add(session.heap, tape, &c)? {
             return Ok(false);
         }
     }

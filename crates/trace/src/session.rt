@@ -35,7 +35,6 @@ pub struct Session {
     pub sheet: Sheet,
     pub has_sheet: bool,
     text: Vec<u8>,
-    pub bytes: Vec<u8>,
     pub ids: Vec<u64>,
     pub next: Next,
     pub own: u64,
@@ -65,7 +64,6 @@ impl Session {
             sheet,
             has_sheet: false,
             text: Vec::new(heap),
-            bytes: Vec::new(heap),
             ids: Vec::new(heap),
             next: Next::Nothing,
             own: 0,
@@ -109,14 +107,14 @@ impl Session {
     }
 
     fn read_sheet(&mut self, word: &[u8], out: &mut String) -> anyhow::Result<Done> {
-        if !hex_digits::decode(word, &mut self.bytes)? {
+        let Some(bytes) = hex_digits::decode(self.heap, word)? else {
             return Ok(Done::Unknown);
-        }
-        match fill(&mut self.sheet, &self.bytes) {
+        };
+        match fill(&mut self.sheet, &bytes) {
             Ok(()) => {
                 self.has_sheet = true;
                 self.text.clear();
-                self.text.extend_from_slice(self.bytes.as_slice())?;
+                self.text.extend_from_slice(bytes.as_slice())?;
                 let n = self.sheet.templates.len();
                 writeln!(out, "sheet {n}")?;
             }
@@ -126,11 +124,14 @@ impl Session {
     }
 
     fn check_packet(&mut self, word: &[u8], out: &mut String) -> anyhow::Result<Done> {
-        if !self.has_sheet || !hex_digits::decode(word, &mut self.bytes)? {
+        if !self.has_sheet {
             return Ok(Done::Unknown);
         }
-        match check(&self.sheet, &self.bytes) {
-            Ok(()) => list_packet(&Checked::new(&self.sheet, &self.bytes), out)?,
+        let Some(bytes) = hex_digits::decode(self.heap, word)? else {
+            return Ok(Done::Unknown);
+        };
+        match check(&self.sheet, &bytes) {
+            Ok(()) => list_packet(&Checked::new(&self.sheet, &bytes), out)?,
             Err(fault) => refused(Refusal::from(fault), out)?,
         }
         Ok(Done::Answered)

@@ -37,11 +37,11 @@ fn call_of<'a>(c: &Command, bytes: &'a [u8]) -> Option<Call<'a>> {
     }
 }
 
-// Lets a command wait that is a call of the receiver; whether it is one. `bytes` is room to read its word in.
-pub fn add(tape: &mut Tape, c: &Command, bytes: &mut Vec<u8>) -> anyhow::Result<bool> {
-    if !hex_digits::decode(word_of(c), bytes)? {
+// Lets a command wait that is a call of the receiver; whether it is one.
+pub fn add(heap: Global, tape: &mut Tape, c: &Command) -> anyhow::Result<bool> {
+    let Some(bytes) = hex_digits::decode(heap, word_of(c))? else {
         return Ok(false);
-    }
+    };
     match call_of(c, bytes.as_slice()) {
         Some(call) => {
             tape.add(call)?;
