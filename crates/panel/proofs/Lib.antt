@@ -1,4 +1,3 @@
 pub mod Noting
-pub mod Putting
 pub mod Slots
 pub mod Listing

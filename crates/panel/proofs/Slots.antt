@@ -1,60 +1,53 @@
--- a panel that is put, as the store's model has it
-use Rattle.std.proofs.Common.{◌≡◌, ℕ, ◌+◌, ◌<◌, Bool, true, false, cond, List, length, get_or, take, set, sym, ap, ◌∙◌, ⊎_elim, arith}
-use Rattle.std.proofs.lemmas.List.FromFn.{length-map-range_with_len, get_or-map-range_with_len}
-use Rattle.std.proofs.lemmas.List.{same_lists, length-set, get_or-set_same, get_or-set_other, set-get_or}
-use Rattle.std.proofs.lemmas.Bool.{cases_eq}
+-- what a store of panels holds after a write
+use Rattle.std.proofs.Common.{◌≡◌, ℕ, zero, suc, ◌<◌, ◌≤◌, Bool, true, false, cond, eqb, List, [], ◌∷◌, length, map, get_or, take, set, replicate, ℤ, None, Option, refl, sym, ap, ◌∙◌, arith}
+use Rattle.std.proofs.lemmas.List.{map-set, get_or-map, take-replicate, length-take-le, length-map, get_or_past}
 use Rattle.store.specs.Kind.{Model}
-use Rattle.store.specs.Calls.{value_at, with_slot, with_staged}
-use Rattle.panel.specs.declared.cells.Cells.{Cells}
+use Rattle.store.specs.Calls.{with_slot}
+use Rattle.panel.specs.declared.listed.Listed.{Listed}
+use Rattle.panel.specs.declared.numbers.Numbers.{Numbers}
 use Rattle.panel.specs.declared.panel_store.PanelStore.{PanelStore}
-use Rattle.panel.specs.Numbers.{Panel, no_numbers}
+use Rattle.panel.specs.Numbers.{Panel, no_numbers, noted, number_of}
 use Rattle.panel.specs.Kind.{panel}
-use Rattle.panel.specs.Cells.{PutsPanel, templates_of, panel_at}
-use Rattle.panel.specs.Model.{panels, setup_of, model_of}
+use Rattle.panel.specs.Model.{templates_of, panel_of, setup_of, model_of}
+use Rattle.panel.specs.Shown.{shown}
 
-pub panels-length : (s : Cells) → length (panels s) ≡ 64
-unfolding panels
-panels-length s = length-map-range_with_len (panel_at s) 1 64
+abbrev pub model : List Panel → Panel → ℕ → Model Panel ℕ
+model l v w = record { slots = l; staged = v; owed = w }
 
-pub panel-value : (s : Cells) (i : ℕ) (d : Panel) → i < 64 → get_or (panels s) i d ≡ panel_at s (i + 1)
-unfolding panels
-panel-value s i d h = get_or-map-range_with_len (panel_at s) 1 64 i (i + 1) d h (omega arith)
+-- no number in any place
+pub none_noted : (l : Listed) (n : Numbers) → n.places ≡ replicate 16 None → panel_of l n ≡ no_numbers (templates_of l)
+none_noted l n e =
+    ap (take l.count) e ∙ (take-replicate l.count 16 None l.room ∙ ap (λ m. replicate m None) (sym (length-take-le l.count l.places (omega (arith, l.size, l.room)))))
 
-same_model : (a b : List Panel) (x y : Panel) (w : ℕ) → a ≡ b → x ≡ y → ◌≡◌ {A = Model Panel ℕ} (record { slots = a; staged = x; owed = w }) (record { slots = b; staged = y; owed = w })
-same_model a b x y w e f = ap (λ z. record { slots = z; staged = x; owed = w }) e ∙ ap (λ z. record { slots = b; staged = z; owed = w }) f
+-- a panel in the place of another
+pub panel_set : (s : PanelStore) (i : ℕ) (n : Numbers) → model (map (panel_of s.listed) (set s.panels i n)) (panel_of s.listed s.staged) s.owed ≡ with_slot (panel (setup_of s)) (model_of s) i (panel_of s.listed n)
+panel_set s i n = ap (λ l. model l (panel_of s.listed s.staged) s.owed) (map-set (panel_of s.listed) s.panels i n)
 
-module _ (s : PanelStore) where
-  pub in_slots : (i : ℕ) → i < length (model_of s).slots → i < 64
-  in_slots i h = omega (arith, panels-length s.cells)
+same_everywhere : (l : Listed) (n : Numbers) (m : ℕ) → map (panel_of l) (replicate m n) ≡ replicate m (panel_of l n)
+same_everywhere l n zero = refl
+same_everywhere l n (suc m) = ap (λ z. panel_of l n ∷ z) (same_everywhere l n m)
 
-  module _ (t : Cells) where
-    pub slot_put : (i : ℕ) (v : Panel) → i < 64 → PutsPanel s.cells t (i + 1) v → ◌≡◌ {A = Model Panel ℕ} (record { slots = panels t; staged = panel_at t 0; owed = s.owed }) (with_slot (panel (setup_of s)) (model_of s) i v)
-    slot_put i v h p = same_model _ _ _ _ s.owed
-        (same_lists (panels t) (set (panels s.cells) i v) (panels-length t ∙ sym (length-set (panels s.cells) i v ∙ panels-length s.cells))
-        (λ k d l.
-        let m : k < 64 = omega (arith, panels-length t) in
-        panel-value t k d m ∙ ⊎_elim
-        (λ e. ap (λ z. panel_at t (z + 1)) e ∙ (p.here ∙ sym (ap (λ z. get_or (set (panels s.cells) i v) z d) e ∙ get_or-set_same (panels s.cells) i v d (omega (arith, panels-length s.cells)))))
-        (λ ne. p.others (k + 1) (omega arith) (λ e. ne (omega arith)) ∙ sym (get_or-set_other (panels s.cells) i k v d ne ∙ panel-value s.cells k d m))
-        (cases_eq k i)))
-        (p.others 0 (omega arith) (λ e. omega arith))
+pub all_fresh : (l : Listed) (n : Numbers) → n.places ≡ replicate 16 None → map (panel_of l) (replicate 64 n) ≡ replicate 64 (no_numbers (templates_of l))
+all_fresh l n e = same_everywhere l n 64 ∙ ap (replicate 64) (none_noted l n e)
 
-    pub staged-put : (v : Panel) (w : ℕ) → PutsPanel s.cells t 0 v → ◌≡◌ {A = Model Panel ℕ} (record { slots = panels t; staged = panel_at t 0; owed = w }) (with_staged (panel (setup_of s)) (model_of s) v w)
-    staged-put v w p = same_model _ _ _ _ w
-        (same_lists (panels t) (panels s.cells) (panels-length t ∙ sym (panels-length s.cells))
-        (λ k d l.
-        let m : k < 64 = omega (arith, panels-length t) in
-        panel-value t k d m ∙ (p.others (k + 1) (omega arith) (λ e. omega arith) ∙ sym (panel-value s.cells k d m))))
-        p.here
+-- a statistic that is noted in the panel at a place
+pub noted_in : (l : Listed) (ps : List Numbers) (i : ℕ) (m n : Numbers) (t : ℕ) (x : ℤ) → i < length ps → panel_of l n ≡ noted (templates_of l) (panel_of l (get_or ps i m)) t x
+    → map (panel_of l) (set ps i n) ≡ set (map (panel_of l) ps) i (noted (templates_of l) (get_or (map (panel_of l) ps) i (no_numbers (templates_of l))) t x)
+noted_in l ps i m n t x h q =
+    map-set (panel_of l) ps i n
+    ∙ ap (set (map (panel_of l) ps) i) (q ∙ ap (λ v. noted (templates_of l) v t x) (sym (get_or-map (panel_of l) ps i m (no_numbers (templates_of l)) h)))
 
-    pub same-setup : (k : ℕ) (v : Panel) → PutsPanel s.cells t k v → templates_of t ≡ setup_of s
-    same-setup k v p = ap (λ n. take n t.templates) p.count ∙ ap (take s.cells.count) p.templates
+either_none : (b : Bool) (x : Option ℤ) → None ≡ x → None ≡ cond b None x
+either_none true x e = refl
+either_none false x e = e
 
-    -- what a message that may not fit leaves
-    pub put_or_not : (i : ℕ) (b : Bool) (f : Panel → Panel) → i < 64 → PutsPanel s.cells t (i + 1) (cond b (f (panel_at s.cells (i + 1))) (panel_at s.cells (i + 1)))
-        → ◌≡◌ {A = Model Panel ℕ} (record { slots = panels t; staged = panel_at t 0; owed = s.owed }) (cond b (with_slot (panel (setup_of s)) (model_of s) i (f (value_at (panel (setup_of s)) (model_of s) i))) (model_of s))
-    put_or_not i true f h p =
-        slot_put i _ h p ∙ ap (λ v. with_slot (panel (setup_of s)) (model_of s) i (f v)) (sym (panel-value s.cells i (no_numbers (setup_of s)) h))
-    put_or_not i false f h p =
-        slot_put i _ h p ∙ (ap (λ v. with_slot (panel (setup_of s)) (model_of s) i v) (sym (panel-value s.cells i (no_numbers (setup_of s)) h))
-        ∙ ap (λ l. record { slots = l; staged = panel_at s.cells 0; owed = s.owed }) (set-get_or (panels s.cells) i (no_numbers (setup_of s))))
+-- a panel without numbers shows none
+none-of-none : (ts : List ℕ) (m t : ℕ) → None ≡ number_of ts (replicate m None) t
+none-of-none [] m t = refl
+none-of-none (u ∷ us) zero t = refl
+none-of-none (u ∷ us) (suc m) t = either_none (eqb u t) _ (none-of-none us m t)
+
+pub none-shown : (s : PanelStore) (i t : ℕ) → 64 ≤ i → None ≡ shown s i t
+none-shown s i t h =
+    none-of-none (setup_of s) (length (setup_of s)) t
+    ∙ ap (λ v. number_of (setup_of s) v t) (sym (get_or_past (map (panel_of s.listed) s.panels) i (no_numbers (setup_of s)) (omega (arith, length-map s.panels (panel_of s.listed), s.slots))))

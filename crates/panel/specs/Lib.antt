@@ -2,7 +2,6 @@ pub mod Numbers
 pub mod Kind
 pub mod Image
 pub mod ImageLaw
-pub mod Cells
 pub mod Model
 pub mod Opening
 pub mod Shown

@@ -1,6 +1,10 @@
-// numbers of templates, of which the first `count` are in use
+ghost use Rattle.std.specs.Prelude.{◌≡◌, ◌≤◌, length};
+
+// the templates that panels have numbers of: the first `count` of the places are in use
 #[derive(Clone, Copy)]
 pub struct Listed {
-    pub templates: [u16; 16],
-    pub count: usize,
+    pub(crate) places: [u16; 16],
+    pub(crate) count: usize,
+    ghost size: { length places ≡ 16 },
+    ghost room: { count ≤ 16 },
 }

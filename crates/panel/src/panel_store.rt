@@ -1,13 +1,14 @@
-ghost use Rattle.std.specs.Prelude.{◌≡◌, ◌≤◌, length};
+ghost use Rattle.std.specs.Prelude.{◌≡◌, length};
 
-use crate::cells::Cells;
+use crate::listed::Listed;
+use crate::numbers::Numbers;
 
 // panels for 64 slots, and one staged, with how many numbers are owed to it
 #[derive(Drop)]
 pub struct PanelStore {
-    pub(crate) cells: Cells,
+    pub(crate) listed: Listed,
+    pub(crate) panels: [Numbers; 64],
+    pub(crate) staged: Numbers,
     pub(crate) owed: usize,
-    ghost numbers: { length cells.numbers ≡ 1040 },
-    ghost templates: { length cells.templates ≡ 16 },
-    ghost count: { cells.count ≤ 16 },
+    ghost slots: { length panels ≡ 64 },
 }

@@ -9,7 +9,7 @@ impl PanelStore {
     pub fn templates(&self) -> &[u16]
         ensures { result.now ≡ setup_of self.now }
     {
-        &self.cells.templates[..self.cells.count]
+        self.listed.templates()
     }
 
     // The latest number of a template in a slot, where there is one.
@@ -19,6 +19,6 @@ impl PanelStore {
         if slot >= 64 {
             return None;
         }
-        self.cells.number_at(slot + 1, template)
+        self.panels[slot].number(&self.listed, template)
     }
 }

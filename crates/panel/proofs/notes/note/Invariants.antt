@@ -1,7 +1,7 @@
-use Rattle.std.proofs.Common.{◌≡◌}
+use Rattle.std.proofs.Common.{◌≡◌, length, take}
 use Rattle.panel.specs.Numbers.{noted}
 use Rattle.panel.proofs.Noting.{left}
 use Rattle.panel.proofs.notes.note.Given as goal
 
 abbrev pub invariant-loop-k : goal.invariant-loop-k
-invariant-loop-k l = left l.templates l.numbers l.f.template l.f.value l.k ≡ noted l.templates l.initial.numbers l.f.template l.f.value
+invariant-loop-k l = left l.templates (take (length l.templates) l.numbers) l.f.template l.f.value l.k ≡ noted l.templates (take (length l.templates) l.initial.numbers) l.f.template l.f.value

@@ -1,15 +1,5 @@
-use Rattle.std.proofs.Common.{rules}
-use Rattle.panel.proofs.Slots.{in_slots, slot_put, same-setup}
+use Rattle.panel.proofs.Slots.{panel_set}
 use Rattle.panel.proofs.calls.PanelStoreStore.adopt_at.Goals as goal
 
-pub overflow_add-slot : goal.overflow_add-slot
-overflow_add-slot c = let i = in_slots c.args.self.now c.args.slot c.requires in search rules
-
-pub copy_to-requires : goal.copy_to-requires
-copy_to-requires c = let i = in_slots c.args.self.now c.args.slot c.requires in search rules
-
-pub returns : goal.returns
-returns c =
-    let s = c.args.self.now in
-    let t = c.copy_to.new.self in
-    record { after = slot_put s t c.args.slot _ (in_slots s c.args.slot c.requires) c.copy_to.ensures; stays = same-setup s t _ _ c.copy_to.ensures }
+pub returns-clause-after : goal.returns-clause-after
+returns-clause-after c = let s = c.args.self.now in panel_set s c.args.slot s.staged

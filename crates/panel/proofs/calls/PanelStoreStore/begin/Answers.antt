@@ -1,8 +1,9 @@
-use Rattle.panel.proofs.Slots.{staged-put, same-setup}
+use Rattle.std.proofs.Common.{ap}
+use Rattle.panel.specs.Model.{model_of}
+use Rattle.panel.proofs.Slots.{model, none_noted}
 use Rattle.panel.proofs.calls.PanelStoreStore.begin.Goals as goal
 
-pub returns : goal.returns
-returns c =
+pub returns-clause-after : goal.returns-clause-after
+returns-clause-after c =
     let s = c.args.self.now in
-    let t = c.clear_at.new.self in
-    record { after = staged-put s t _ _ c.clear_at.ensures; stays = same-setup s t _ _ c.clear_at.ensures }
+    ap (λ v. model (model_of s).slots v c.args.h.now.stats) (none_noted s.listed c.none-self.result c.none-self.ensures)

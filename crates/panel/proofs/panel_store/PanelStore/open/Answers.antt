@@ -1,16 +1,9 @@
-use Rattle.std.proofs.Common.{vec_items, refl, ap, ◌∙◌, arith}
-use Rattle.layout.specs.Lawful.{stat_count}
-use Rattle.panel.specs.Opening.{stat_templates}
-use Rattle.panel.proofs.Listing.{panels-fresh, few-stats}
+use Rattle.std.proofs.Common.{refl}
+use Rattle.panel.proofs.Slots.{none_noted, all_fresh}
 use Rattle.panel.proofs.panel_store.PanelStore.open.Goals as goal
 
-pub listed-requires : goal.listed-requires
-listed-requires c = omega (arith, ap stat_count c.as_slice.ensures.value, few-stats c.args.sheet.now.actions (vec_items c.args.sheet.now.templates) c.args.sheet.now.lawful)
-
-pub returns : goal.returns
-returns c =
-    let e = c.empty_cells.ensures in
-    record {
-      setup = e.templates ∙ (c.listed.ensures.list ∙ ap stat_templates c.as_slice.ensures.value);
-      model = record { slots = panels-fresh c.empty_cells.result _ e.panels; staged = e.panels 0 (omega arith); owed = refl };
-    }
+pub returns-clause-model : goal.returns-clause-model
+returns-clause-model c =
+    let l = c.listed.result in
+    let n = c.none-none.result in
+    record { slots = all_fresh l n c.none-none.ensures; staged = none_noted l n c.none-none.ensures; owed = refl }
