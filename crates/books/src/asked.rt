@@ -1,7 +1,8 @@
 use anyhow::anyhow;
+use capture::endpoint::Endpoint;
 use commands::number::{decimal, decimal_in};
 use layout::sheet::Sheet;
-use options::endpoint::{Endpoint, endpoint_in};
+use options::endpoint::endpoint_in;
 use options::fault::OptionFault;
 use options::options::Options;
 use options::setting::{Flag, Setting};

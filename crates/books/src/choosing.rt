@@ -2,19 +2,11 @@ use crate::asked::{Asked, Loop};
 use crate::course::Course;
 use crate::finding::Finding;
 use anyhow::anyhow;
-use destinations::destination::{Destination, Flow};
+use capture::endpoint::Endpoint;
+use destinations::destination::Flow;
 use destinations::feeds::{Feed, feed_of, nearly_all};
-use options::endpoint::Endpoint;
 
 const ASK: &str = "the capture does not make it plain what to rebuild; give the option named above";
-
-// An address as it is written.
-pub fn write_endpoint(out: &mut String, endpoint: Endpoint) -> anyhow::Result<()> {
-    let [a, b, c, d] = endpoint.address.to_be_bytes();
-    let port = endpoint.port;
-    write!(out, "{a}.{b}.{c}.{d}:{port}")?;
-    Ok(())
-}
 
 fn feed_word(feed: Feed) -> &'static str {
     match feed {
@@ -25,23 +17,14 @@ fn feed_word(feed: Feed) -> &'static str {
     }
 }
 
-fn endpoint_of(destination: &Destination) -> Endpoint {
-    Endpoint {
-        address: destination.address,
-        port: destination.port,
-    }
-}
-
 // Lists the destinations of a capture on standard error.
 pub fn list_destinations(rt: &HostRuntime, finding: &Finding) -> anyhow::Result<()> {
     eprintln!(rt; "the capture has packets to:")?;
-    let mut line = String::new(rt.alloc());
     for d in finding.table.destinations.as_slice() {
-        line.clear();
-        write_endpoint(&mut line, endpoint_of(d))?;
+        let to = d.to;
         let packets = d.packets;
         let word = feed_word(feed_of(&d.counts));
-        eprintln!(rt; "  {line} {word}, packets that keep the rules: {packets}")?;
+        eprintln!(rt; "  {to} {word}, packets that keep the rules: {packets}")?;
     }
     Ok(())
 }
@@ -50,7 +33,7 @@ pub fn list_destinations(rt: &HostRuntime, finding: &Finding) -> anyhow::Result<
 fn destination_at(finding: &Finding, endpoint: Endpoint) -> Option<usize> {
     let all = finding.table.destinations.as_slice();
     for i in 0..all.len() {
-        if all[i].address == endpoint.address && all[i].port == endpoint.port {
+        if all[i].to == endpoint {
             return Some(i);
         }
     }
@@ -59,9 +42,7 @@ fn destination_at(finding: &Finding, endpoint: Endpoint) -> Option<usize> {
 
 // Says that nothing came to a destination that was asked for.
 fn no_such(rt: &HostRuntime, finding: &Finding, endpoint: Endpoint) -> anyhow::Result<()> {
-    let mut line = String::new(rt.alloc());
-    write_endpoint(&mut line, endpoint)?;
-    eprintln!(rt; "books: no packet of the capture was sent to {line}")?;
+    eprintln!(rt; "books: no packet of the capture was sent to {endpoint}")?;
     list_destinations(rt, finding)?;
     Err(anyhow!("a destination is wrong; take it from the list above"))
 }
@@ -80,9 +61,7 @@ fn places_of(rt: &HostRuntime, finding: &Finding, feed: Feed) -> anyhow::Result<
 
 // Says on standard error what was found.
 fn say(rt: &HostRuntime, what: &str, endpoint: Endpoint) -> anyhow::Result<()> {
-    let mut line = String::new(rt.alloc());
-    write_endpoint(&mut line, endpoint)?;
-    eprintln!(rt; "found: {what} {line}")?;
+    eprintln!(rt; "found: {what} {endpoint}")?;
     Ok(())
 }
 
@@ -102,13 +81,13 @@ fn incremental(
     let all = finding.table.destinations.as_slice();
     match places.as_slice() {
         [one] if *one < all.len() => {
-            let first = endpoint_of(&all[*one]);
+            let first = all[*one].to;
             say(rt, "--incremental", first)?;
             Ok((first, None))
         }
         [one, two] if *one < all.len() && *two < all.len() => {
-            let first = endpoint_of(&all[*one]);
-            let second = endpoint_of(&all[*two]);
+            let first = all[*one].to;
+            let second = all[*two].to;
             say(rt, "--incremental, feed A", first)?;
             say(rt, "--incremental, feed B", second)?;
             Ok((first, Some(second)))
@@ -142,7 +121,7 @@ fn snapshot(
             Ok(None)
         }
         [one] if *one < all.len() => {
-            let found = endpoint_of(&all[*one]);
+            let found = all[*one].to;
             say(rt, "--snapshot", found)?;
             Ok(Some(found))
         }
@@ -221,7 +200,7 @@ fn main_stream(
     let mut streams = Vec::new(rt.alloc());
     let (one, two) = feeds;
     for i in 0..all.len() {
-        let here = endpoint_of(&all[i]);
+        let here = all[i].to;
         if here == one || Some(here) == two {
             add_streams(&mut streams, asked, all[i].flows.as_slice())?;
         }

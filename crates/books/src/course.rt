@@ -1,5 +1,5 @@
+use capture::endpoint::Endpoint;
 use destinations::received::Received;
-use options::endpoint::Endpoint;
 use refusal::Refusal;
 
 // what the books are rebuilt from: one channel and version, one or two incremental feeds, the snapshot loop, the instruments
@@ -29,27 +29,16 @@ pub struct Lanes {
     pub snapshot: Received,
 }
 
-fn is_at(endpoint: &Endpoint, address: u32, port: u16) -> bool {
-    endpoint.address == address && endpoint.port == port
-}
-
-fn is_there(endpoint: &Option<Endpoint>, address: u32, port: u16) -> bool {
-    match endpoint {
-        Some(endpoint) => is_at(endpoint, address, port),
-        None => false,
-    }
-}
-
 impl Course {
-    // The destination that has this address and port, if it is one of these.
-    pub fn lane(&self, address: u32, port: u16) -> Option<Lane> {
-        if is_at(&self.first, address, port) {
+    // Which of these destinations has this address and port, if one has.
+    pub fn lane(&self, to: Endpoint) -> Option<Lane> {
+        if self.first == to {
             return Some(Lane::First);
         }
-        if is_there(&self.second, address, port) {
+        if self.second == Some(to) {
             return Some(Lane::Second);
         }
-        if is_there(&self.snapshot, address, port) {
+        if self.snapshot == Some(to) {
             return Some(Lane::Snapshot);
         }
         None

@@ -1,3 +1,4 @@
+use capture::fault::CaptureFault;
 use capture::frame::Frame;
 use destinations::table::Table;
 use layout::sheet::Sheet;
@@ -5,8 +6,6 @@ use message::fields::security_of;
 use packet::checked::Checked;
 use packet::rules::check;
 use reading::reader::Reader;
-use reading::shown::Shown;
-use reading::standing::Standing;
 use reading::window::Window;
 use std::alloc::{AllocError, Global};
 use std::fs;
@@ -52,19 +51,18 @@ impl Finding {
         Ok(())
     }
 
-    // Notes every whole record that a window has still to show; how the file goes on.
+    // Notes every whole record that a window has still to show; the fault, where the file breaks.
     fn drain(
         &mut self,
         heap: Global,
         sheet: &Sheet,
         window: &mut Window,
-    ) -> Result<Standing, AllocError> {
+    ) -> Result<Option<CaptureFault>, AllocError> {
         loop {
             match window.next() {
-                Shown::Record(frame) => self.note(heap, sheet, &frame)?,
-                Shown::More => return Ok(Standing::More),
-                Shown::End => return Ok(Standing::End),
-                Shown::Broken(fault) => return Ok(Standing::Broken(fault)),
+                Ok(Some(frame)) => self.note(heap, sheet, &frame)?,
+                Ok(None) => return Ok(None),
+                Err(fault) => return Ok(Some(fault)),
             }
         }
     }
@@ -101,10 +99,10 @@ pub fn find(rt: &HostRuntime, path: &str, sheet: &Sheet) -> anyhow::Result<Findi
             continue;
         };
         let mut window = reader.window(format, last);
-        let standing = finding.drain(heap, sheet, &mut window)?;
+        let fault = finding.drain(heap, sheet, &mut window)?;
         let used = window.used();
         reader.skip(used);
-        if !matches!(standing, Standing::More) {
+        if last || fault.is_some() {
             return Ok(finding);
         }
     }

@@ -10,13 +10,13 @@ use crate::summary::summarize;
 use crate::tables::Tells;
 use crate::verdict::verdict;
 use anyhow::anyhow;
+use capture::fault::CaptureFault;
 use layout::sheet::Sheet;
 use message::values::Order;
 use options::setting::{Flag, Setting};
 use orders::opening::check_opening;
 use orders::order_store::OrderStore;
 use panel::panel_store::PanelStore;
-use reading::standing::Standing;
 use refusal::Refusal;
 use replay::desk::Desk;
 use settling::slots::all_different;
@@ -50,7 +50,7 @@ fn serve<S: Store + Tells>(
     out: &mut Output,
     path: &str,
     progress: bool,
-) -> anyhow::Result<Standing> {
+) -> anyhow::Result<Option<CaptureFault>> {
     let channel = state.course.channel;
     let version = state.course.version;
     match Desk::open(
@@ -63,9 +63,9 @@ fn serve<S: Store + Tells>(
     ) {
         Ok(desk) => {
             let mut desk = desk;
-            let standing = attend(rt, &mut desk, store, state, out, path, progress);
+            let fault = attend(rt, &mut desk, store, state, out, path, progress);
             let _ = desk.close();
-            standing
+            fault
         }
         Err(fault) => {
             let refusal = Refusal::from(fault);
@@ -85,7 +85,7 @@ fn rebuild_orders(
     out: &mut Output,
     path: &str,
     progress: bool,
-) -> anyhow::Result<Standing> {
+) -> anyhow::Result<Option<CaptureFault>> {
     let depth = state.depth;
     let books = state.course.watch.len().saturating_add(1).max(2);
     let room = depth.saturating_mul(2).saturating_mul(books);
@@ -108,7 +108,7 @@ fn rebuild_panels(
     out: &mut Output,
     path: &str,
     progress: bool,
-) -> anyhow::Result<Standing> {
+) -> anyhow::Result<Option<CaptureFault>> {
     let mut store = PanelStore::open(&sheet);
     serve(rt, &mut store, sheet, state, out, path, progress)
 }
@@ -149,7 +149,7 @@ fn make(
         picture.is_some(),
     )?;
     let mut out = Output::new(rt, part)?;
-    let standing = if panel {
+    let fault = if panel {
         rebuild_panels(rt, sheet, &mut state, &mut out, path, progress)?
     } else {
         rebuild_orders(rt, sheet, &mut state, &mut out, path, progress)?
@@ -161,7 +161,7 @@ fn make(
         close_stretch(told, packets, heard);
     }
     summarize(rt, &state, out.rows)?;
-    verdict(rt, path, &state, standing)?;
+    verdict(rt, path, &state, fault)?;
     match picture {
         Some(picture) => draw_coverage(rt, &mut state, picture),
         None => Ok(()),

@@ -3,15 +3,14 @@ use crate::output::Output;
 use crate::state::State;
 use crate::tables::Tells;
 use crate::told::{Stamp, Told};
+use capture::fault::CaptureFault;
 use capture::frame::{Datagram, Frame};
 use changes::due::{look_due, same_sign, shows_adoption};
 use coverage::coverage::Coverage;
 use coverage::shade::Shade;
 use reading::reader::Reader;
-use reading::shown::Shown;
-use reading::standing::Standing;
 use reading::window::Window;
-use recovery::answers::{Sign, Standing as BookStanding};
+use recovery::answers::{Sign, Standing};
 use refusal::Refusal;
 use replay::call::{Answer, Call};
 use replay::desk::Desk;
@@ -45,7 +44,7 @@ fn shade_of(sign: Sign) -> Shade {
 }
 
 // Tells the picture how the book at a slot stands, after a call before which `before` was the highest packet heard.
-fn shade(coverage: &mut Option<Coverage>, slot: usize, before: u64, standing: BookStanding) {
+fn shade(coverage: &mut Option<Coverage>, slot: usize, before: u64, standing: Standing) {
     if let Some(coverage) = coverage {
         let _ = coverage.tell(slot, before, standing.heard, shade_of(standing.sign));
     }
@@ -65,7 +64,7 @@ fn look_at<S: Store + Tells>(
     out: &mut Output,
     slot: usize,
     time: u64,
-    standing: BookStanding,
+    standing: Standing,
 ) -> anyhow::Result<()> {
     if slot >= state.told.len() {
         return Ok(());
@@ -153,7 +152,7 @@ fn take<S: Store + Tells>(
     out: &mut Output,
     datagram: &Datagram,
 ) -> anyhow::Result<()> {
-    let Some(lane) = state.course.lane(datagram.address, datagram.port) else {
+    let Some(lane) = state.course.lane(datagram.to) else {
         return Ok(());
     };
     let payload = datagram.payload;
@@ -187,7 +186,7 @@ fn take<S: Store + Tells>(
     look(desk, store, state, out, datagram.time, adopted)
 }
 
-// Brings every whole record that a window has still to show to the receiver; how the file goes on.
+// Brings every whole record that a window has still to show to the receiver; the fault, where the file breaks.
 fn drain<S: Store + Tells>(
     rt: &HostRuntime,
     desk: &mut Desk,
@@ -196,19 +195,18 @@ fn drain<S: Store + Tells>(
     state: &mut State,
     out: &mut Output,
     window: &mut Window,
-) -> anyhow::Result<Standing> {
+) -> anyhow::Result<Option<CaptureFault>> {
     loop {
         match window.next() {
-            Shown::Record(frame) => {
+            Ok(Some(frame)) => {
                 state.records = state.records.saturating_add(1);
                 if let Frame::Datagram(datagram) = frame {
                     take(desk, store, shelf, state, out, &datagram)?;
                     out.settle(rt)?;
                 }
             }
-            Shown::More => return Ok(Standing::More),
-            Shown::End => return Ok(Standing::End),
-            Shown::Broken(fault) => return Ok(Standing::Broken(fault)),
+            Ok(None) => return Ok(None),
+            Err(fault) => return Ok(Some(fault)),
         }
     }
 }
@@ -222,7 +220,7 @@ pub fn attend<S: Store + Tells>(
     out: &mut Output,
     path: &str,
     progress: bool,
-) -> anyhow::Result<Standing> {
+) -> anyhow::Result<Option<CaptureFault>> {
     let mut file = fs::open(rt, path)?;
     let mut reader = Reader::new(rt.alloc())?;
     let mut shelf = vec![in rt.alloc(); 0u8; 44800]?;
@@ -234,13 +232,13 @@ pub fn attend<S: Store + Tells>(
     for _ in 0..u64::MAX {
         let last = reader.fill(&mut file)?;
         if let Err(fault) = reader.open(last) {
-            return Ok(Standing::Broken(fault));
+            return Ok(Some(fault));
         }
         let Some(format) = reader.format() else {
             continue;
         };
         let mut window = reader.window(format, last);
-        let standing = drain(
+        let fault = drain(
             rt,
             desk,
             store,
@@ -251,15 +249,14 @@ pub fn attend<S: Store + Tells>(
         )?;
         let used = window.used();
         reader.skip(used);
-        if let Standing::More = standing {
-            if progress && reader.offset() >= told {
-                let read = told / 1048576;
-                eprintln!(rt; "{read} MiB read")?;
-                told = told.saturating_add(PROGRESS);
-            }
-        } else {
-            return Ok(standing);
+        if last || fault.is_some() {
+            return Ok(fault);
+        }
+        if progress && reader.offset() >= told {
+            let read = told / 1048576;
+            eprintln!(rt; "{read} MiB read")?;
+            told = told.saturating_add(PROGRESS);
         }
     }
-    Ok(Standing::End)
+    Ok(None)
 }

@@ -1,8 +1,7 @@
-use crate::choosing::write_endpoint;
 use crate::state::State;
 use crate::told::Told;
+use capture::endpoint::Endpoint;
 use destinations::received::Received;
-use options::endpoint::Endpoint;
 use refusal::Reason;
 use shares::noting::hundredths;
 
@@ -13,12 +12,10 @@ fn write_received(
     endpoint: Endpoint,
     received: &Received,
 ) -> anyhow::Result<()> {
-    write!(out, "{name} ")?;
-    write_endpoint(out, endpoint)?;
     let taken = received.taken;
     let repeated = received.repeated;
     let late = received.reason(Reason::Late.number()).count;
-    writeln!(out, ": {taken} taken, {repeated} repeated, {late} late")?;
+    writeln!(out, "{name} {endpoint}: {taken} taken, {repeated} repeated, {late} late")?;
     for reason in Reason::ALL {
         let number = reason.number();
         let refused = received.reason(number);

@@ -4,26 +4,13 @@ use crate::state::State;
 use anyhow::anyhow;
 use capture::fault::CaptureFault;
 use destinations::received::Received;
-use reading::standing::Standing;
-
-// What a fault is, in words.
-fn fault_text(fault: CaptureFault) -> &'static str {
-    match fault {
-        CaptureFault::NotCapture => "no capture file",
-        CaptureFault::UnknownLink => "a link type that is not known",
-        CaptureFault::HeaderCut(_) => "the file ends inside its header",
-        CaptureFault::RecordCut(_) => "the file ends inside a record",
-        CaptureFault::RecordLong(_) => "a record that is too long",
-    }
-}
 
 // Says where a capture is damaged.
-fn damage(rt: &HostRuntime, path: &str, standing: Standing) -> anyhow::Result<()> {
-    if let Standing::Broken(fault) = standing {
+fn damage(rt: &HostRuntime, path: &str, fault: Option<CaptureFault>) -> anyhow::Result<()> {
+    if let Some(fault) = fault {
         let at = fault.offset();
-        let text = fault_text(fault);
         eprintln!(rt;
-            "books: {path}: {text}, at byte {at}; the rows end with the packet before it"
+            "books: {path}: {fault}, at byte {at}; the rows end with the packet before it"
         )?;
         return Err(anyhow!("the capture is damaged, so that the table is not whole"));
     }
@@ -114,9 +101,9 @@ pub fn verdict(
     rt: &HostRuntime,
     path: &str,
     state: &State,
-    standing: Standing,
+    fault: Option<CaptureFault>,
 ) -> anyhow::Result<()> {
-    damage(rt, path, standing)?;
+    damage(rt, path, fault)?;
     feed(rt, path, state, &state.lanes.first)?;
     if state.course.second.is_some() {
         feed(rt, path, state, &state.lanes.second)?;

@@ -15,7 +15,7 @@ pub data Held : Type 0 where
 
 -- what a frame that is handed out says
 abbrev pub view : Frame → Held
-view (Datagram d) = datagram d.time d.address d.port d.payload.now
+view (Datagram d) = datagram d.time d.to.address d.to.port d.payload.now
 view Cut = cut
 view Fragment = fragment
 view NoUdp = no_udp

@@ -1,9 +1,10 @@
+use crate::endpoint::Endpoint;
+
 // a whole UDP datagram, with its time in nanoseconds since the epoch and where it was sent to
 #[derive(Clone, Copy, Debug, PartialEq, Eq)]
 pub struct Datagram<'a> {
     pub time: u64,
-    pub address: u32,
-    pub port: u16,
+    pub to: Endpoint,
     pub payload: &'a [u8],
 }
 

@@ -1,6 +1,7 @@
 #![tactic(auto)]
 
 pub mod count;
+pub mod endpoint;
 pub mod fault;
 pub mod file;
 pub mod format;
@@ -8,6 +9,7 @@ pub mod frame;
 pub mod header;
 pub mod network;
 pub mod order;
+pub mod part;
 pub mod read;
 pub mod record;
 pub mod step;

@@ -3,6 +3,7 @@ ghost use Rattle.capture.specs.Held.{view};
 ghost use Rattle.capture.specs.Sent.{Sent, Sendable, sent_over, arrived};
 ghost use Rattle.capture.specs.Network.{udp_held, ipv4_held, is_ipv4, is_udp, is_fragment, is_tag, untagged, typed_held, link_held};
 
+use crate::endpoint::Endpoint;
 use crate::format::Link;
 use crate::frame::{Datagram, Frame};
 use crate::order::ByteOrder;
@@ -24,8 +25,10 @@ fn udp<'a>(time: u64, address: u32, segment: &'a [u8]) -> Frame<'a>
     }
     Frame::Datagram(Datagram {
         time,
-        address,
-        port: two(segment, 2),
+        to: Endpoint {
+            address,
+            port: two(segment, 2),
+        },
         payload: &segment[8..length],
     })
 }

@@ -4,7 +4,7 @@ use crate::fault::CaptureFault;
 use crate::file::Capture;
 use crate::frame::Frame;
 use crate::header::format;
-use crate::record::step;
+use crate::part::Part;
 use crate::step::Step;
 
 impl<'a> Capture<'a> {
@@ -25,8 +25,13 @@ impl<'a> Capture<'a> {
         ensures { Stepped self.old result self.new }
     {
         let bytes = self.bytes;
-        let window = &bytes[bytes.len().min(self.at)..];
-        match step(self.format, window, self.at as u64, true)? {
+        let part = Part {
+            format: self.format,
+            bytes: &bytes[bytes.len().min(self.at)..],
+            offset: self.at as u64,
+            last: true,
+        };
+        match part.step()? {
             Step::End => Ok(None),
             Step::More(_) => unreachable(),
             Step::Taken(frame, size) => {

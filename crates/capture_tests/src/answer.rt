@@ -24,7 +24,7 @@ fn number(payload: &[u8]) -> u32 {
 
 pub fn summary(frame: Frame) -> Told {
     match frame {
-        Frame::Datagram(d) => Told::Datagram(d.time, d.address, d.port, number(d.payload)),
+        Frame::Datagram(d) => Told::Datagram(d.time, d.to.address, d.to.port, number(d.payload)),
         Frame::Cut => Told::Cut,
         Frame::Fragment => Told::Fragment,
         Frame::NoUdp => Told::NoUdp,

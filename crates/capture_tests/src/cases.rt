@@ -5,9 +5,10 @@ mod tests {
     use capture::count::count;
     use capture::fault::CaptureFault;
     use capture::format::{Format, Link, Precision};
+    use capture::frame::Frame;
     use capture::header::format;
     use capture::order::ByteOrder;
-    use capture::record::step;
+    use capture::part::Part;
     use capture::step::Step;
     use capture::tally::Tally;
     use std::test::Fail;
@@ -140,21 +141,23 @@ mod tests {
             link: Link::RawIp,
         };
         let window = b"\x02\0\0\0\x03\0\0\0\x04\0\0\0\x04\0\0\0\x45\0\0\0";
-        let more = match step(format, &window[0..7], 24, false)? {
-            Step::More(n) => n,
-            Step::Taken(_, _) | Step::End => 0,
+        let short = Part {
+            format,
+            bytes: &window[0..7],
+            offset: 24,
+            last: false,
         };
-        assert_eq!(rt; more, 16);
-        let wanted = match step(format, &window[0..19], 24, false)? {
-            Step::More(n) => n,
-            Step::Taken(_, _) | Step::End => 0,
+        assert_eq!(rt; short.step(), Ok(Step::More(16)));
+        let longer = Part {
+            bytes: &window[0..19],
+            ..short
         };
-        assert_eq!(rt; wanted, 20);
-        let size = match step(format, window, 24, false)? {
-            Step::Taken(_, size) => size,
-            Step::More(_) | Step::End => 0,
+        assert_eq!(rt; longer.step(), Ok(Step::More(20)));
+        let whole = Part {
+            bytes: window,
+            ..short
         };
-        assert_eq!(rt; size, 20);
+        assert_eq!(rt; whole.step(), Ok(Step::Taken(Frame::Cut, 20)));
         Ok(())
     }
 }

@@ -1,5 +1,6 @@
 -- What noting a datagram does to the figures of its destination, and how a flow and a destination are told.
 use Rattle.std.specs.Prelude.{ℕ, Bool, ◌&&◌, List, Ok, Err, Result, ◌==◌}
+use Rattle.capture.specs.declared.endpoint.Endpoint.{Endpoint}
 use Rattle.packet.specs.declared.fault.FrameFault.{FrameFault}
 use Rattle.message.specs.Meaning.{Msg}
 use Rattle.packet.specs.Refusals.{frame_refusal}
@@ -12,8 +13,8 @@ use Rattle.destinations.specs.Counting.{one_more, all_noted, refused_noted}
 abbrev pub is_flow : Flow → ℕ → ℕ → Bool
 is_flow f channel version = f.channel == channel && f.version == version
 
-abbrev pub is_destination : Destination → ℕ → ℕ → Bool
-is_destination d address port = d.address == address && d.port == port
+abbrev pub is_destination : Destination → Endpoint → Bool
+is_destination d to = d.to.address == to.address && d.to.port == to.port
 
 -- by what the check of the payload says: a datagram that keeps the rules is one packet more, with its messages
 abbrev pub packets_after : Result (Unit {0}) FrameFault → ℕ → ℕ

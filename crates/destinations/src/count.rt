@@ -106,3 +106,23 @@ impl Counts {
         self.reasons[reason] = self.reasons[reason].again(place, index);
     }
 }
+
+impl Counts {
+    // How many messages of all kinds came.
+    pub fn all_messages(&self) -> u64 {
+        let mut all: u64 = 0;
+        for count in self.kinds.iter() {
+            all = all.saturating_add(*count);
+        }
+        all
+    }
+
+    // How many datagrams were refused.
+    pub fn all_refused(&self) -> u64 {
+        let mut all: u64 = 0;
+        for refused in self.reasons.iter() {
+            all = all.saturating_add(refused.count);
+        }
+        all
+    }
+}

@@ -1,4 +1,5 @@
 use crate::counts::Counts;
+use capture::endpoint::Endpoint;
 use numbering::stream::Stream;
 
 // the packets of one channel and version; `first` is the record, counted from 1, in which the first of them came
@@ -10,11 +11,10 @@ pub struct Flow {
     pub stream: Stream,
 }
 
-// what came to one address and port; `last` is the place of the flow that came last
+// what was sent to one address and port; `last` is the place of the flow that came last
 #[derive(Drop)]
 pub struct Destination {
-    pub address: u32,
-    pub port: u16,
+    pub to: Endpoint,
     pub packets: u64,
     pub flows: Vec<Flow>,
     pub last: usize,

@@ -5,6 +5,7 @@ ghost use Rattle.destinations.specs.Noting.{is_flow, packets_after, kinds_after,
 
 use crate::counts::Counts;
 use crate::destination::{Destination, Flow};
+use capture::endpoint::Endpoint;
 use layout::sheet::Sheet;
 use numbering::stream::Stream;
 use packet::checked::Checked;
@@ -39,13 +40,12 @@ fn find_flow(flows: &[Flow], last: usize, channel: u8, version: u16) -> usize
 
 impl Destination {
     // An address and port where nothing came yet.
-    pub fn new(heap: Global, address: u32, port: u16) -> Destination
-        ensures place { (result.address ≡ address) × (result.port ≡ port) }
+    pub fn new(heap: Global, to: Endpoint) -> Destination
+        ensures place { result.to ≡ to }
         ensures nothing { (result.packets ≡ 0) × (result.flows.items ≡ []) × (result.counts.kinds ≡ replicate 8 0) × (result.counts.reasons ≡ replicate 8 never) }
     {
         Destination {
-            address,
-            port,
+            to,
             packets: 0,
             flows: Vec::new(heap),
             last: 0,

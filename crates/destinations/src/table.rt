@@ -4,6 +4,7 @@ ghost use Rattle.capture.specs.Held.{view};
 ghost use Rattle.capture.specs.Tally.{nothing, noted};
 
 use crate::destination::Destination;
+use capture::endpoint::Endpoint;
 use capture::frame::{Datagram, Frame};
 use capture::tally::Tally;
 use layout::sheet::Sheet;
@@ -18,25 +19,25 @@ pub struct Table {
     pub tally: Tally,
 }
 
-fn is_destination(destination: &Destination, address: u32, port: u16) -> bool
-    ensures { result ≡ is_destination destination.now address port }
+fn is_destination(destination: &Destination, to: Endpoint) -> bool
+    ensures { result ≡ is_destination destination.now to }
 {
-    destination.address == address && destination.port == port
+    destination.to == to
 }
 
 // The place of an address and port, or the number of destinations where there is none.
-fn find_destination(destinations: &[Destination], last: usize, address: u32, port: u16) -> usize
+fn find_destination(destinations: &[Destination], last: usize, to: Endpoint) -> usize
     ensures within { result ≤ length destinations.now }
-    ensures found { (d : Destination) → result < length destinations.now → is_destination (slice_index_or destinations.now result d) address port ≡ true }
-    ensures absent { (k : ℕ) (d : Destination) → result ≡ length destinations.now → k < length destinations.now → is_destination (slice_index_or destinations.now k d) address port ≡ false }
+    ensures found { (d : Destination) → result < length destinations.now → is_destination (slice_index_or destinations.now result d) to ≡ true }
+    ensures absent { (k : ℕ) (d : Destination) → result ≡ length destinations.now → k < length destinations.now → is_destination (slice_index_or destinations.now k d) to ≡ false }
 {
-    if last < destinations.len() && is_destination(&destinations[last], address, port) {
+    if last < destinations.len() && is_destination(&destinations[last], to) {
         return last;
     }
     let mut i = destinations.len();
     while i > 0 {
         i -= 1;
-        if is_destination(&destinations[i], address, port) {
+        if is_destination(&destinations[i], to) {
             return i;
         }
     }
@@ -65,12 +66,10 @@ impl Table {
     ) -> Result<(), AllocError>
         ensures { self.new.tally ≡ self.old.tally }
     {
-        let address = datagram.address;
-        let port = datagram.port;
-        let place = find_destination(self.destinations.as_slice(), self.last, address, port);
+        let to = datagram.to;
+        let place = find_destination(self.destinations.as_slice(), self.last, to);
         if place == self.destinations.len() {
-            self.destinations
-                .push(Destination::new(heap, address, port))?;
+            self.destinations.push(Destination::new(heap, to))?;
         }
         self.last = place;
         self.destinations[place].note(heap, sheet, datagram.payload, self.records)

@@ -2,7 +2,7 @@
 use Rattle.std.specs.Prelude.{ℕ, ◌+◌, ◌*◌, List, Some, Option}
 use Rattle.sheet_text.specs.Text.{cut_at}
 use Rattle.commands.specs.Decimal.{and_then, decimal_of, up_to}
-use Rattle.options.specs.declared.endpoint.Endpoint.{Endpoint}
+use Rattle.capture.specs.declared.endpoint.Endpoint.{Endpoint}
 
 abbrev pub byte_of : List ℕ → Option ℕ
 byte_of word = up_to 255 (decimal_of word)

@@ -1,15 +1,9 @@
 ghost use Rattle.std.specs.Prelude.{◌≡◌};
 ghost use Rattle.options.specs.Endpoints.{address_of, endpoint_of};
 
+use capture::endpoint::Endpoint;
 use commands::number::decimal_in;
 use sheet_text::text::cut;
-
-// where packets are sent to
-#[derive(Clone, Copy, Debug, PartialEq, Eq)]
-pub struct Endpoint {
-    pub address: u32,
-    pub port: u16,
-}
 
 // The address that a word says.
 fn address_in(word: &[u8]) -> Option<u32>

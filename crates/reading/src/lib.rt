@@ -3,6 +3,4 @@
 pub mod filling;
 pub mod reader;
 pub mod showing;
-pub mod shown;
-pub mod standing;
 pub mod window;

@@ -1,3 +1,1 @@
-pub mod Counting
 pub mod Window
-pub mod Noting

@@ -1,16 +1,16 @@
 -- How the count of a file's records goes on behind a window.
-use Rattle.std.specs.Prelude.{◌≡◌, ℕ, ◌+◌, List, ◌++◌, drop}
-use Rattle.capture.specs.declared.format.Format.{Format}
+use Rattle.std.specs.Prelude.{◌≡◌, ℕ, List, true, Some, None, Option}
+use Rattle.capture.specs.declared.fault.CaptureFault.{CaptureFault}
 use Rattle.capture.specs.declared.tally.Tally.{Tally}
-use Rattle.capture.specs.Records.{contents}
 use Rattle.capture.specs.Tally.{tallied, ended}
-use Rattle.survey.specs.declared.reader.Standing.{Standing}
-use Rattle.survey.specs.declared.reader.Standing.TheVariants.{More, End, Broken}
+use Rattle.reading.specs.declared.window.Window.{Window}
+use Rattle.reading.specs.Window.{ahead}
 
--- the tally of all that a file holds from `at` on is the tally after the window, with what the file holds behind the bytes
--- that are used up; at the end it is that tally, and where the file breaks, that tally with the fault
-abbrev pub GoesOn : Format → List ℕ → List ℕ → ℕ → Tally → Tally → ℕ → Standing → Type 0
-GoesOn f window rest at before after used More =
-    tallied before (contents f 0 (window ++ rest) at) ≡ tallied after (contents f 0 (drop used window ++ rest) (at + used))
-GoesOn f window rest at before after used End = tallied before (contents f 0 (window ++ rest) at) ≡ after
-GoesOn f window rest at before after used (Broken e) = tallied before (contents f 0 (window ++ rest) at) ≡ ended after e
+-- the tally of all that a file holds from where the window stands is the tally after it, with what the file holds from where
+-- the window stands then; where the file ends with the window it is that tally, and where the file breaks, that tally with the
+-- fault
+abbrev pub GoesOn : Window → List ℕ → Tally → Tally → Window → Option CaptureFault → Type 0
+GoesOn window rest before after shown None =
+    (tallied before (ahead window rest) ≡ tallied after (ahead shown rest))
+    × (window.last ≡ true → tallied before (ahead window rest) ≡ after)
+GoesOn window rest before after shown (Some e) = tallied before (ahead window rest) ≡ ended after e

@@ -1,20 +1,15 @@
 #![tactic(auto)]
 
-mod count;
-mod counts;
-mod destination;
-mod flows;
-mod reader;
+mod drain;
 mod report;
 mod sums;
-mod table;
-mod window;
 
-use crate::reader::{Reader, Standing};
-use crate::table::Table;
+use crate::drain::drain;
 use anyhow::anyhow;
 use capture::fault::CaptureFault;
+use destinations::table::Table;
 use layout::sheet::Sheet;
+use reading::reader::Reader;
 use sheet_text::filling::fill;
 use std::{env, fs};
 
@@ -56,12 +51,19 @@ fn scan(
     let mut told: u64 = PROGRESS;
     for _ in 0..u64::MAX {
         let last = reader.fill(&mut file)?;
-        match reader.turn(table, rt.alloc(), sheet, last)? {
-            Standing::More => {}
-            Standing::End => return Ok(None),
-            Standing::Broken(fault) => return Ok(Some(fault)),
+        if let Err(fault) = reader.open(last) {
+            return Ok(Some(fault));
         }
-        if reader.offset >= told {
+        if let Some(format) = reader.format() {
+            let mut window = reader.window(format, last);
+            let fault = drain(table, rt.alloc(), sheet, &mut window)?;
+            let used = window.used();
+            reader.skip(used);
+            if last || fault.is_some() {
+                return Ok(fault);
+            }
+        }
+        if reader.offset() >= told {
             let read = told / 1048576;
             eprintln!(rt; "{read} MiB read")?;
             told = told.saturating_add(PROGRESS);
@@ -83,17 +85,6 @@ fn tell(rt: &HostRuntime, table: &Table) -> anyhow::Result<()> {
     Ok(())
 }
 
-// What a fault is, in words.
-fn fault_text(fault: CaptureFault) -> &'static str {
-    match fault {
-        CaptureFault::NotCapture => "no capture file",
-        CaptureFault::UnknownLink => "a link type that is not known",
-        CaptureFault::HeaderCut(_) => "the file ends inside its header",
-        CaptureFault::RecordCut(_) => "the file ends inside a record",
-        CaptureFault::RecordLong(_) => "a record that is too long",
-    }
-}
-
 fn run(rt: &HostRuntime) -> anyhow::Result<()> {
     let (sheet_path, capture_path) = paths(rt)?;
     let sheet = load(rt, sheet_path.as_str())?;
@@ -102,8 +93,7 @@ fn run(rt: &HostRuntime) -> anyhow::Result<()> {
     tell(rt, &table)?;
     if let Some(fault) = fault {
         let at = fault.offset();
-        let text = fault_text(fault);
-        return Err(anyhow!(format!(in rt.alloc(); "{capture_path}: {text}, at byte {at}")?));
+        return Err(anyhow!(format!(in rt.alloc(); "{capture_path}: {fault}, at byte {at}")?));
     }
     Ok(())
 }

@@ -1,7 +1,7 @@
-use crate::counts::Counts;
-use crate::destination::{Destination, Flow};
 use crate::sums::Sums;
-use crate::table::Table;
+use destinations::counts::Counts;
+use destinations::destination::{Destination, Flow};
+use destinations::table::Table;
 use refusal::Reason;
 
 // A figure on a line of its own.
@@ -78,9 +78,8 @@ fn write_sums(out: &mut String, sums: &Sums) -> anyhow::Result<()> {
 
 // All figures of a destination.
 pub fn write_destination(out: &mut String, d: &Destination) -> anyhow::Result<()> {
-    let [a, b, c, e] = d.address.to_be_bytes();
-    let port = d.port;
-    writeln!(out, "{a}.{b}.{c}.{e}:{port}")?;
+    let to = d.to;
+    writeln!(out, "{to}")?;
     figure(out, "packets", d.packets)?;
     write_identity(out, d.flows.as_slice())?;
     write_sums(out, &Sums::of(d.flows.as_slice()))?;

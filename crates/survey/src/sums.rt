@@ -1,4 +1,4 @@
-use crate::destination::Flow;
+use destinations::destination::Flow;
 
 // the figures of several flows together: the lowest and the highest number, and the sums
 #[derive(Clone, Copy)]

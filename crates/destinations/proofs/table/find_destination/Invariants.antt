@@ -5,7 +5,7 @@ use Rattle.destinations.proofs.table.find_destination.Given as goal
 
 abbrev pub invariant-loop-i : goal.invariant-loop-i
 invariant-loop-i l =
-    (l.i ≤ length l.destinations) × ((k : ℕ) (d : Destination) → l.i ≤ k → k < length l.destinations → is_destination (get_or l.destinations k d) l.address l.port ≡ false)
+    (l.i ≤ length l.destinations) × ((k : ℕ) (d : Destination) → l.i ≤ k → k < length l.destinations → is_destination (get_or l.destinations k d) l.to ≡ false)
 
 abbrev pub decreases-loop-i : goal.decreases-loop-i
 decreases-loop-i l = l.i

@@ -1,0 +1,17 @@
+use std::fmt;
+
+// an IPv4 address and a UDP port
+#[derive(Clone, Copy, Debug, PartialEq, Eq)]
+pub struct Endpoint {
+    pub address: u32,
+    pub port: u16,
+}
+
+impl fmt::Display for Endpoint {
+    // The four figures of the address with points, a colon, the port.
+    fn fmt<W: fmt::Write>(&self, f: &mut fmt::Formatter<W>) -> fmt::Result {
+        let [a, b, c, d] = self.address.to_be_bytes();
+        let port = self.port;
+        write!(f, "{a}.{b}.{c}.{d}:{port}")
+    }
+}
