@@ -15,7 +15,10 @@ fn write_received(
     let taken = received.taken;
     let repeated = received.repeated;
     let late = received.reason(Reason::Late.number()).count;
-    writeln!(out, "{name} {endpoint}: {taken} taken, {repeated} repeated, {late} late")?;
+    writeln!(
+        out,
+        "{name} {endpoint}: {taken} taken, {repeated} repeated, {late} late"
+    )?;
     for reason in Reason::ALL {
         let number = reason.number();
         let refused = received.reason(number);
