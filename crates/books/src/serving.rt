@@ -5,7 +5,7 @@ use crate::tables::Tells;
 use crate::told::{Stamp, Told};
 use capture::fault::CaptureFault;
 use capture::frame::{Datagram, Frame};
-use changes::due::{look_due, same_sign, shows_adoption};
+use changes::due::{look_due, shows_adoption};
 use coverage::coverage::Coverage;
 use coverage::shade::Shade;
 use reading::reader::Reader;
@@ -71,7 +71,7 @@ fn look_at<S: Store + Tells>(
     }
     let told = &mut state.told[slot];
     let first = state.packets == 1;
-    let marked = first || !same_sign(told.sign, standing.sign);
+    let marked = first || told.sign != standing.sign;
     if marked {
         close_stretch(told, state.packets.saturating_sub(1), state.heard);
         told.from = standing.heard;
@@ -108,7 +108,7 @@ fn look_slot<S: Store + Tells>(
         state.told[slot].number = standing.number;
         let latest = state.named.latest_of(slot);
         let risen = standing.heard > state.heard.saturating_add(1);
-        if risen || all || !same_sign(sign, standing.sign) {
+        if risen || all || sign != standing.sign {
             shade(&mut state.coverage, slot, state.heard, standing);
         }
         if adopted && shows_adoption(sign, before, standing.sign, standing.number) {

@@ -5,7 +5,7 @@ use Rattle.message.specs.declared.values.HeaderFields.{HeaderFields}
 use Rattle.layout.specs.declared.kinds.Layout.{Layout}
 use Rattle.layout.specs.declared.kinds.Layout.TheVariants.{Order, Delete, Mass, Empty, Stat, Header, Entries}
 use Rattle.message.specs.Meaning.{Msg, security, order_fields, header_fields}
-use Rattle.settling.specs.Slots.{slot_found}
+use Rattle.settling.specs.Slots.{slot_named}
 
 -- the place that a message says a side has: the position of an order, the larger count of a header
 abbrev pub of_order : Option OrderFields → ℕ
@@ -25,11 +25,6 @@ depth_in (Some (Empty l)) m = 0
 depth_in (Some (Stat l)) m = 0
 depth_in (Some (Header l)) m = of_header (header_fields l m)
 depth_in (Some (Entries l)) m = 0
-
--- the slot of the instrument that a message names, if it is watched
-abbrev pub slot_named : List ℕ → Option ℕ → Option ℕ
-slot_named watch None = None
-slot_named watch (Some id) = slot_found watch id
 
 abbrev pub latest_at : List ℕ → Option ℕ → ℕ → List ℕ
 latest_at latest None number = latest

@@ -3,10 +3,11 @@ ghost use Rattle.message.specs.Meaning.{security};
 ghost use Rattle.packet.specs.Rules.{messages_from};
 ghost use Rattle.message.specs.Views.{view};
 ghost use Rattle.settling.specs.Watched.{watch_of};
-ghost use Rattle.changes.specs.Naming.{depth_in, slot_named, latest_at, deepest_at, latest_after, deepest_after};
+ghost use Rattle.settling.specs.Slots.{slot_named};
+ghost use Rattle.changes.specs.Naming.{depth_in, latest_at, deepest_at, latest_after, deepest_after};
 
 use crate::named::Named;
-use message::fields::{header_fields, order_fields, security_of};
+use message::fields::{header_fields, order_fields};
 use message::message::Message;
 use packet::checked::Walk;
 use settling::watch::Watch;
@@ -16,31 +17,14 @@ fn depth_in(message: &Message) -> u64
     ensures { result ≡ depth_in (view message.now).layout (view message.now).bytes }
 {
     match *message {
-        Message::Order(l, part) => match order_fields(l, part) {
-            Some(f) => f.position,
-            None => 0,
-        },
-        Message::Header(l, part) => match header_fields(l, part) {
-            Some(f) => f.bids.max(f.offers),
-            None => 0,
-        },
+        Message::Order(l, part) => order_fields(l, part).map_or(0, |f| f.position),
+        Message::Header(l, part) => header_fields(l, part).map_or(0, |f| f.bids.max(f.offers)),
         Message::Delete(_, _)
         | Message::Mass(_, _)
         | Message::Empty(_, _)
         | Message::Stat(_, _)
         | Message::Entries(_, _)
         | Message::Other(_) => 0,
-    }
-}
-
-// The slot of the instrument that a message names, if it is watched.
-fn slot_named(watch: &Watch, message: &Message) -> Option<usize>
-    ensures slot { result ≡ slot_named (watch_of watch.now) (security (view message.now)) }
-    ensures within { IfSome result (λ q. q < 64) }
-{
-    match security_of(message) {
-        Some(id) => watch.slot(id),
-        None => None,
     }
 }
 
@@ -60,7 +44,7 @@ impl Named {
         ensures latest { self.new.latest ≡ latest_at self.old.latest (slot_named (watch_of watch.now) (security (view message.now))) number }
         ensures deepest { self.new.deepest ≡ deepest_at self.old.deepest (slot_named (watch_of watch.now) (security (view message.now))) (depth_in (view message.now).layout (view message.now).bytes) }
     {
-        if let Some(slot) = slot_named(watch, message) {
+        if let Some(slot) = watch.named(message) {
             self.latest[slot] = self.latest[slot].max(number);
             self.deepest = self.deepest.max(depth_in(message));
         }
@@ -80,9 +64,6 @@ impl Named {
     pub fn latest_of(&self, slot: usize) -> u64
         ensures { result ≡ slice_index self.now.latest slot }
     {
-        if slot >= 64 {
-            return 0;
-        }
-        self.latest[slot]
+        self.latest.get(slot).copied().unwrap_or(0)
     }
 }

@@ -1,6 +1,6 @@
 -- A whole snapshot that becomes the book at a slot.
-use Rattle.std.proofs.Common.{◌≡◌, ℕ, ◌<◌, max, Bool, true, false, cond, not, ◌&&◌, eqb, ltb, List, length, get_or, set, Ok, Err, Result, sym, refl, ap, ◌∙◌, subst, arith}
-use Rattle.std.proofs.lemmas.Bool.{ltb-true}
+use Rattle.std.proofs.Common.{◌≡◌, ℕ, ◌<◌, max, Bool, true, false, cond, not, ◌&&◌, eqb, ltb, List, length, get_or, set, is_err, Ok, Err, Result, sym, refl, ap, ◌∙◌, subst, arith}
+use Rattle.std.proofs.lemmas.Bool.{ltb-true, false≢true}
 use Rattle.std.proofs.lemmas.Bool.Decides.{nat_tests}
 use Rattle.layout.specs.declared.sheet.Sheet.{Sheet}
 use Rattle.store.specs.Kind.{Kind, Model}
@@ -29,6 +29,10 @@ use Rattle.receiver.specs.Standings.{opening_of, plain_of, state_in}
 comes_adopts : (y : Mark) (n h : ℕ) → idle y n h ≡ false → comes (Whole n h) y ≡ AsOf n
 comes_adopts Stale n h e = rw e
 comes_adopts (AsOf m) n h e = rw e
+
+pub fine : {E : Type 0} (r : Result (Unit {0}) E) → false ≡ is_err r → Ok tt ≡ r
+fine (Ok x) e = refl
+fine (Err x) e = absurd (false≢true e)
 
 ok_both : (r b : Bool) (x : StoreFault) → ◌≡◌ {A = Result (Unit {0}) StoreFault} (Ok tt) (cond r (cond b (Ok tt) (Err Owed)) (Err x)) → (r ≡ true) × (b ≡ true)
 ok_both true true x e = (refl, refl)

@@ -7,7 +7,6 @@ ghost use Rattle.receiver.specs.Joins.{join_answer, joining, leaving, leave_answ
 
 use crate::join::{Join, Left};
 use crate::receiver::Receiver;
-use crate::renewal::receive;
 use recovery::answers::{Incremental, Sign, Standing};
 use recovery::fault::StreamFault;
 use recovery::marks::Mark;
@@ -52,10 +51,10 @@ impl Receiver {
         ensures opening { self.new.sub ≡ self.old.sub }
         ensures stays { S.setup store.new ≡ S.setup store.old }
     {
-        match self.sub.judge(&self.plain, shelf.len(), bytes)? {
+        match self.sub.judge(&self.plain, shelf, bytes)? {
             Incremental::Repeat => Ok(Incremental::Repeat),
             Incremental::Taken => {
-                receive(&mut self.plain, store, &self.sub, shelf, bytes);
+                self.plain.receive(store, &self.sub, shelf, bytes);
                 Ok(Incremental::Taken)
             }
         }

@@ -1,7 +1,7 @@
 ghost use Rattle.std.specs.Prelude.{◌≡◌, true, not, ◌&&◌, [], length, is_ok, Ok, Err, MatchResult, ◌==◌};
 ghost use Rattle.recovery.specs.declared.fault.StreamFault.TheVariants.{Join};
 ghost use Rattle.packet.specs.Rules.{packet_check, packet_head};
-ghost use Rattle.recovery.specs.Answers.{refuses, lawful_version, opening_check, shelf_check, bytes_check, incremental_rules, snapshot_rules, snapshot_check, again, is_next};
+ghost use Rattle.recovery.specs.Answers.{refuses, lawful_version, opening_check, bytes_check, incremental_rules, snapshot_rules, snapshot_check, again, is_next};
 ghost use Rattle.receiver.specs.Standings.{opening_of, plain_of};
 ghost use Rattle.receiver.specs.Judged.{judged};
 ghost use Rattle.receiver.specs.Notes.{noted_plain};
@@ -15,6 +15,7 @@ use packet::rules::check;
 use recovery::answers::Incremental;
 use recovery::fault::StreamFault;
 use recovery::marks::Followed;
+use settling::shelf::Shelf;
 use settling::slots::all_different;
 
 fn lawful_version(version: u16) -> bool
@@ -39,15 +40,6 @@ pub fn check_opening(watch: &[u64], version: u16, slots: usize) -> Result<(), St
     Ok(())
 }
 
-fn shelf_check(room: usize) -> Result<(), StreamFault>
-    ensures { result ≡ shelf_check room }
-{
-    if room < 44800 {
-        return Err(StreamFault::Shelf(room));
-    }
-    Ok(())
-}
-
 // The header of a packet that keeps the rules.
 pub(crate) fn head_of(sheet: &Sheet, bytes: &[u8]) -> PacketHead
     requires { is_ok (packet_check sheet.now bytes.now) ≡ true }
@@ -58,10 +50,10 @@ pub(crate) fn head_of(sheet: &Sheet, bytes: &[u8]) -> PacketHead
 
 impl Subscription {
     // The shelf's length, then the packet itself.
-    fn bytes_check(&self, room: usize, bytes: &[u8]) -> Result<(), StreamFault>
-        ensures { result ≡ bytes_check (opening_of self.now) room bytes.now }
+    fn bytes_check(&self, shelf: &[u8], bytes: &[u8]) -> Result<(), StreamFault>
+        ensures { result ≡ bytes_check (opening_of self.now) (length shelf.now) bytes.now }
     {
-        shelf_check(room)?;
+        Shelf::new(shelf)?;
         check(&self.sheet, bytes)?;
         Ok(())
     }
@@ -114,13 +106,13 @@ impl Subscription {
         &self,
         plain: &Plain,
         own: u64,
-        room: usize,
+        shelf: &[u8],
         bytes: &[u8],
     ) -> Result<PacketHead, StreamFault>
-        ensures { MatchResult result (λ h. (snapshot_check (opening_of self.now) (plain_of self.now.sheet plain.now []) own room bytes.now ≡ Ok tt) × (h ≡ packet_head bytes.now)) (λ e. snapshot_check (opening_of self.now) (plain_of self.now.sheet plain.now []) own room bytes.now ≡ Err e) }
+        ensures { MatchResult result (λ h. (snapshot_check (opening_of self.now) (plain_of self.now.sheet plain.now []) own (length shelf.now) bytes.now ≡ Ok tt) × (h ≡ packet_head bytes.now)) (λ e. snapshot_check (opening_of self.now) (plain_of self.now.sheet plain.now []) own (length shelf.now) bytes.now ≡ Err e) }
     {
         self.join_check(plain.joined, own)?;
-        self.bytes_check(room, bytes)?;
+        self.bytes_check(shelf, bytes)?;
         let h = head_of(&self.sheet, bytes);
         self.snapshot_rules(h)?;
         Ok(h)
@@ -130,12 +122,12 @@ impl Subscription {
     pub(crate) fn judge(
         &self,
         plain: &Plain,
-        room: usize,
+        shelf: &[u8],
         bytes: &[u8],
     ) -> Result<Incremental, StreamFault>
-        ensures { result ≡ judged (opening_of self.now) plain.now.places.heard plain.now.places.numbers room bytes.now }
+        ensures { result ≡ judged (opening_of self.now) plain.now.places.heard plain.now.places.numbers (length shelf.now) bytes.now }
     {
-        self.bytes_check(room, bytes)?;
+        self.bytes_check(shelf, bytes)?;
         let h = head_of(&self.sheet, bytes);
         self.incremental_rules(plain.places.heard, h)?;
         if plain.places.shelved(u64::from(h.number)) {

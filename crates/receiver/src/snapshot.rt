@@ -3,10 +3,10 @@ ghost use Rattle.recovery.specs.Steps.{snapshot_answer, snapshot_step};
 ghost use Rattle.receiver.specs.Standings.{opening_of, state_in};
 
 use crate::join::Join;
-use crate::messages::follow_bytes;
 use crate::receiver::Receiver;
 use recovery::answers::Snapshot;
 use recovery::fault::StreamFault;
+use settling::shelf::Shelf;
 use store::store::Store;
 
 impl Receiver {
@@ -23,12 +23,14 @@ impl Receiver {
         ensures opening { self.new.sub ≡ self.old.sub }
         ensures stays { S.setup store.new ≡ S.setup store.old }
     {
-        let h = self.sub.admit(&self.plain, join.own, shelf.len(), bytes)?;
+        let h = self.sub.admit(&self.plain, join.own, shelf, bytes)?;
         if self.plain.again(h) {
             return Ok(Snapshot::Repeat);
         }
         self.plain.note(h);
-        let adoptions = follow_bytes(&mut self.plain, store, &self.sub, shelf, bytes);
+        let adoptions = self
+            .plain
+            .follow_bytes(store, &self.sub, Shelf { bytes: shelf }, bytes);
         Ok(Snapshot::Taken(adoptions))
     }
 }

@@ -14,3 +14,8 @@ bounded l i v b lt le all p = ⊎_elim
     (λ (e : p ≡ i). subst (λ x. x ≤ b) (sym (ap (λ k. get_or (set l i v) k 0) e ∙ get_or-set_same l i v 0 lt)) le)
     (λ (d : p ≡ i → ⊥). subst (λ x. x ≤ b) (sym (get_or-set_other l i p v 0 d)) (all p))
     (cases_eq p i)
+
+pub same_up : (n b j : ℕ) → get_or (replicate n b) j 0 ≤ b
+same_up zero b j = omega arith
+same_up (suc n) b zero = omega arith
+same_up (suc n) b (suc j) = same_up n b j

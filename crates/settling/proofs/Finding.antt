@@ -1,7 +1,7 @@
 -- The first place of an instrument in a list.
-use Rattle.std.proofs.Common.{◌≡◌, ℕ, zero, suc, ◌+◌, ◌%◌, ◌<◌, ◌≤◌, Bool, true, false, not, eqb, ltb, List, [], ◌∷◌, length, get_or, drop, set, replicate, is_some, Some, None, Option, sym, refl, ap, ◌∙◌, subst, ⊎_elim, arith}
-use Rattle.std.proofs.lemmas.List.{drop_more, drop_all, get_or-set_same, get_or-set_other, get_or-replicate}
-use Rattle.std.proofs.lemmas.Bool.{eqb-true, eq-eqb, ne_eqb, lt-ltb, le-ltb, ltb-false, cases_eq, and_parts, not-true}
+use Rattle.std.proofs.Common.{◌≡◌, ℕ, zero, suc, ◌+◌, ◌%◌, ◌<◌, ◌≤◌, Bool, true, false, not, eqb, ltb, List, [], ◌∷◌, length, get_or, drop, set, is_some, Some, None, Option, sym, refl, ap, ◌∙◌, subst, ⊎_elim, arith}
+use Rattle.std.proofs.lemmas.List.{drop_more, drop_all, get_or-set_same, get_or-set_other}
+use Rattle.std.proofs.lemmas.Bool.{eqb-true, eq-eqb, ne_eqb, lt-ltb, le-ltb, ltb-false, cases_eq, cases_lt, and_parts, not-true}
 use Rattle.recovery.specs.State.{slot_in, distinct}
 use Rattle.settling.specs.Slots.{slot_found}
 
@@ -67,19 +67,26 @@ slot_own (x ∷ xs) (suc q) d l =
     let away : x ≡ get_or xs q 0 → ⊥ = λ e. let s = slot_first xs x q (omega arith) (sym e) in let t = ltb-false _ _ (not-true _ parts.0) in omega arith in
     rw (ne_eqb x (get_or xs q 0) away) (ap suc (slot_own xs q parts.1 (omega arith)))
 
--- the places from k on are noted
-abbrev pub NearFrom : ℕ → List ℕ → List ℕ → Type 0
-NearFrom k first w = (i : ℕ) → k ≤ slot_in w i → get_or first (i % 1024) 0 ≤ slot_in w i
+-- the instruments before place k are noted
+abbrev pub NearUpto : ℕ → List ℕ → List ℕ → Type 0
+NearUpto k first w = (i : ℕ) → slot_in w i < k → get_or first (i % 1024) 0 ≤ slot_in w i
 
-pub near-more : (k k' : ℕ) (first w : List ℕ) → k ≡ k' + 1 → k ≤ length w → length first ≡ 1024 → NearFrom k first w → NearFrom k' (set first (get_or w k' 0 % 1024) k') w
-near-more k k' first w is l long near i h = ⊎_elim
-    (λ (e : i % 1024 ≡ get_or w k' 0 % 1024).
-    subst (λ z. z ≤ slot_in w i) (sym (ap (λ z. get_or (set first (get_or w k' 0 % 1024) k') z 0) e ∙ get_or-set_same first (get_or w k' 0 % 1024) k' 0 (omega arith))) h)
-    (λ (e : i % 1024 ≡ get_or w k' 0 % 1024 → ⊥).
-    let away : get_or w k' 0 ≡ i → ⊥ = λ z. e (ap (λ y. y % 1024) (sym z)) in
-    let later = slot_later w i k' (omega arith) away h in
-    subst (λ z. z ≤ slot_in w i) (sym (get_or-set_other first (get_or w k' 0 % 1024) (i % 1024) k' 0 e)) (near i (omega arith)))
-    (cases_eq (i % 1024) (get_or w k' 0 % 1024))
+pub near_more : (k v : ℕ) (first w : List ℕ) → k < length w → length first ≡ 1024 → v ≤ get_or first (get_or w k 0 % 1024) 0 → v ≤ k → NearUpto k first w
+    → NearUpto (k + 1) (set first (get_or w k 0 % 1024) v) w
+near_more k v first w lt long below le near i h = ⊎_elim
+    (λ (e : i % 1024 ≡ get_or w k 0 % 1024).
+    subst (λ z. z ≤ slot_in w i) (sym (ap (λ z. get_or (set first (get_or w k 0 % 1024) v) z 0) e ∙ get_or-set_same first (get_or w k 0 % 1024) v 0 (omega arith)))
+    (⊎_elim
+    (λ (here : slot_in w i ≡ k). omega arith)
+    (λ (away : slot_in w i ≡ k → ⊥). let n = near i (omega arith) in let f = ap (λ z. get_or first z 0) e in omega arith)
+    (cases_eq (slot_in w i) k)))
+    (λ (e : i % 1024 ≡ get_or w k 0 % 1024 → ⊥).
+    let away : slot_in w i ≡ k → ⊥ = λ z. e (ap (λ y. y % 1024) (sym (slot_is w i (omega arith)) ∙ ap (λ y. get_or w y 0) z)) in
+    subst (λ z. z ≤ slot_in w i) (sym (get_or-set_other first (get_or w k 0 % 1024) (i % 1024) v 0 e)) (near i (omega arith)))
+    (cases_eq (i % 1024) (get_or w k 0 % 1024))
 
-pub near-start : (n m : ℕ) (w : List ℕ) → m ≡ 1024 → NearFrom n (replicate m n) w
-near-start n m w e i h = subst (λ z. z ≤ slot_in w i) (sym (get_or-replicate m (i % 1024) n 0 (omega arith))) h
+pub near_all : (k : ℕ) (first w : List ℕ) → length w ≤ k → ((j : ℕ) → get_or first j 0 ≤ length w) → NearUpto k first w → (i : ℕ) → get_or first (i % 1024) 0 ≤ slot_in w i
+near_all k first w le top near i = ⊎_elim
+    (λ (lt : slot_in w i < length w). near i (omega arith))
+    (λ (no : length w ≤ slot_in w i). let t = top (i % 1024) in omega arith)
+    (cases_lt (slot_in w i) (length w))

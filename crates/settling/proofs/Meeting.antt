@@ -1,12 +1,12 @@
 -- Steps joined, instrument by instrument.
-use Rattle.std.proofs.Common.{◌≡◌, ℕ, ◌<◌, true, false, ltb, List, length, get_or, Some, None, sym, refl, ap, ◌∙◌, subst, ⊎_elim, arith}
+use Rattle.std.proofs.Common.{◌≡◌, ℕ, ◌<◌, true, false, ltb, List, length, get_or, Some, None, Option, sym, refl, ap, ◌∙◌, subst, ⊎_elim, arith}
 use Rattle.std.proofs.lemmas.Bool.{eq-eqb, ne_eqb, cases_eq, ltb-true, ltb-false}
 use Rattle.message.specs.Meaning.{Msg, security}
 use Rattle.store.specs.Kind.{Kind, Model}
 use Rattle.recovery.specs.declared.marks.Mark.{Mark}
 use Rattle.recovery.specs.Books.{Book, kind_at}
 use Rattle.recovery.specs.State.{slot_in, distinct}
-use Rattle.settling.specs.Slots.{slot_found}
+use Rattle.settling.specs.Slots.{slot_found, slot_named}
 use Rattle.settling.specs.Passes.{feed, heeded}
 use Rattle.settling.specs.Each.{Meets, Each, Puts, book_at, kind_in}
 use Rattle.settling.proofs.Finding.{slot_own, slot_is, by_test}
@@ -72,3 +72,18 @@ module _ {V O : Type 0} (K : Kind V O) (w : List ℕ) where
           others = λ q le. sym (put.books q ∙ rw (ne_eqb q p (λ g. omega arith)));
           rest = put.rest;
         }
+
+    -- by the slot that is found for whatever the message names
+    pub hand_elsewhere : distinct w ≡ true → None ≡ slot_named w (security m) → Each K w (feed n m) ms s ms s
+    hand_elsewhere d = go (security m) refl
+      where
+        go : (x : Option ℕ) → x ≡ security m → None ≡ slot_named w x → Each K w (feed n m) ms s ms s
+        go None e f = hand_nobody e
+        go (Some i) e f = hand_none i d e f
+
+    pub hand_named : (p : ℕ) (ms' : List Mark) (s' : Model V O) → distinct w ≡ true → Some p ≡ slot_named w (security m) → Puts K p (heeded n m (kind_in K s p) (book_at K ms s p)) ms s ms' s' → Each K w (feed n m) ms s ms' s'
+    hand_named p ms' s' d f put = go (security m) refl f
+      where
+        go : (x : Option ℕ) → x ≡ security m → Some p ≡ slot_named w x → Each K w (feed n m) ms s ms' s'
+        go None e g = let z : ◌≡◌ {A = ℕ} 0 1 = cc in absurd (omega arith)
+        go (Some i) e g = hand_one i p ms' s' d e g put

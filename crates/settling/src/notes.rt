@@ -10,10 +10,7 @@ use recovery::marks::Mark;
 pub fn stands(x: Mark, n: u64) -> bool
     ensures { result ≡ stands n x }
 {
-    match x {
-        Mark::Stale => false,
-        Mark::AsOf(m) => m == n,
-    }
+    x == Mark::AsOf(n)
 }
 
 // What an event makes of a mark.
@@ -52,10 +49,7 @@ fn comes(e: Event, x: Mark) -> Mark
 fn falls(x: Mark, y: Mark) -> bool
     ensures { result ≡ falls x y }
 {
-    match (x, y) {
-        (Mark::AsOf(_), Mark::Stale) => true,
-        _ => false,
-    }
+    matches!((x, y), (Mark::AsOf(_), Mark::Stale))
 }
 
 // Notes in a mark what an event makes of it, and tells whether it got stale.

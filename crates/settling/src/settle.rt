@@ -1,4 +1,4 @@
-ghost use Rattle.std.specs.Prelude.{◌≡◌, ℕ, ◌+◌, ◌^◌, ◌<◌, ◌≤◌, true, false, length, is_ok, slice_index_or};
+ghost use Rattle.std.specs.Prelude.{◌≡◌, ℕ, ◌+◌, ◌^◌, ◌<◌, ◌≤◌, true, false, length, is_ok, IfSome, slice_index_or};
 ghost use Rattle.packet.specs.Rules.{packet_check};
 ghost use Rattle.recovery.specs.declared.marks.Mark.TheVariants.{Stale};
 ghost use Rattle.recovery.specs.Shelf.{reading, part_of, shelf_of};
@@ -9,8 +9,8 @@ ghost use Rattle.settling.specs.Passes.{pass};
 ghost use Rattle.settling.specs.Each.{Each, Low};
 
 use crate::marks::Event;
-use crate::notes::stands;
 use crate::places::Places;
+use crate::shelf::Shelf;
 use crate::steps::{note_all, walk};
 use crate::table::Marks;
 use crate::watch::Watch;
@@ -25,9 +25,10 @@ fn lowest(marks: &Marks, w: &Watch, heard: u64) -> u64
     ensures top { result ≤ heard }
     ensures low { (q : ℕ) → q < length (watch_of w.now) → Low result (slice_index_or marks.now.at q Stale) }
 {
+    let watched = &marks.at[..w.count];
     let mut low = heard;
-    for p in 0..w.count {
-        if let Mark::AsOf(n) = marks.mark(p) {
+    for mark in watched {
+        if let Mark::AsOf(n) = *mark {
             low = low.min(n);
         }
     }
@@ -38,12 +39,7 @@ fn lowest(marks: &Marks, w: &Watch, heard: u64) -> u64
 fn stood(marks: &Marks, w: &Watch, n: u64) -> bool
     ensures { result ≡ false → (q : ℕ) → q < length (watch_of w.now) → stands n (slice_index_or marks.now.at q Stale) ≡ false }
 {
-    for p in 0..w.count {
-        if stands(marks.mark(p), n) {
-            return true;
-        }
-    }
-    false
+    marks.at[..w.count].contains(&Mark::AsOf(n))
 }
 
 fn passes(sheet: &Sheet, part: &[u8]) -> bool
@@ -74,29 +70,36 @@ fn take<S: Store>(
     }
 }
 
-// All settle. The packet `known` is on the shelf and keeps the rules, or is 0.
+// All settle. The packet `known`, if there is one, is on the shelf and keeps the rules.
 pub fn settle_all<S: Store>(
     marks: &mut Marks,
     store: &mut S,
     w: &Watch,
     places: &Places,
     sheet: &Sheet,
-    shelf: &[u8],
-    known: u64,
+    shelf: Shelf,
+    known: Option<u64>,
 )
-    requires { (44800 ≤ length shelf.now) × ((0 < known → is_ok (packet_check sheet.now (part_of places.now.lengths shelf.now known)) ≡ true)) }
-    ensures books { Each (S.kind (S.setup store.old)) (watch_of w.now) (λ k i x. settle k places.now.heard (shelf_of sheet.now places.now.heard places.now.numbers places.now.lengths shelf.now) i x) marks.old.at (S.model store.old) marks.new.at (S.model store.new) }
+    requires { IfSome known (λ k. is_ok (packet_check sheet.now (part_of places.now.lengths shelf.bytes.now k)) ≡ true) }
+    ensures books { Each (S.kind (S.setup store.old)) (watch_of w.now) (λ k i x. settle k places.now.heard (shelf_of sheet.now places.now.heard places.now.numbers places.now.lengths shelf.entry.bytes.now) i x) marks.old.at (S.model store.old) marks.new.at (S.model store.new) }
     ensures stays { S.setup store.new ≡ S.setup store.old }
 {
     let heard = places.heard;
     let low = lowest(marks, w, heard);
-    let mut n = low.max(heard.saturating_sub(32));
-    while n < heard {
+    for n in low.max(heard.saturating_sub(32))..heard {
         let k = n + 1;
-        if places.shelved(k) && stood(marks, w, n) {
-            take(marks, store, w, n, sheet, places.part(shelf, k), k == known);
+        if !places.shelved(k) || !stood(marks, w, n) {
+            continue;
         }
-        n = k;
+        take(
+            marks,
+            store,
+            w,
+            n,
+            sheet,
+            places.part(shelf, k),
+            known == Some(k),
+        );
     }
     // a book stands no lower than at first, so that none is too far behind where none was
     if heard.saturating_sub(low) >= 33 {

@@ -1,7 +1,28 @@
-ghost use Rattle.std.specs.Prelude.{◌≡◌, ◌%◌, ◌≤◌, max, length, replicate, slice_set};
+ghost use Rattle.std.specs.Prelude.{◌≡◌, ◌%◌, ◌≤◌, max, length, replicate, Ok, Err, MatchResult, slice_set};
+ghost use Rattle.recovery.specs.Answers.{shelf_check};
 ghost use Rattle.recovery.specs.Shelf.{shelved, part_of, written};
 
 use crate::places::Places;
+use recovery::fault::StreamFault;
+
+// the bytes of a shelf, which are enough for its 32 places
+#[derive(Clone, Copy)]
+pub struct Shelf<'a> {
+    pub bytes: &'a [u8],
+    ghost long: { 44800 ≤ length bytes.now },
+}
+
+impl<'a> Shelf<'a> {
+    // The shelf in these bytes, if they are enough.
+    pub fn new(bytes: &'a [u8]) -> Result<Shelf<'a>, StreamFault>
+        ensures { MatchResult result (λ s. (shelf_check (length bytes.now) ≡ Ok tt) × (s.bytes.now ≡ bytes.now)) (λ e. shelf_check (length bytes.now) ≡ Err e) }
+    {
+        if bytes.len() < 44800 {
+            return Err(StreamFault::Shelf(bytes.len()));
+        }
+        Ok(Shelf { bytes })
+    }
+}
 
 impl Places {
     // Nothing heard, and nothing on the shelf.
@@ -23,13 +44,12 @@ impl Places {
     }
 
     // The bytes at the place of packet k.
-    pub fn part<'a>(&self, shelf: &'a [u8], k: u64) -> &'a [u8]
-        requires { 44800 ≤ length shelf.now }
-        ensures { result.now ≡ part_of self.now.lengths shelf.now k }
+    pub fn part<'a>(&self, shelf: Shelf<'a>, k: u64) -> &'a [u8]
+        ensures { result.now ≡ part_of self.now.lengths shelf.entry.bytes.now k }
     {
         let p = (k % 32) as usize;
         let n = self.lengths[p];
-        &shelf[p * 1400..p * 1400 + n]
+        &shelf.bytes[p * 1400..p * 1400 + n]
     }
 
     // Notes packet q, of n bytes, at its place.

@@ -1,9 +1,13 @@
-ghost use Rattle.std.specs.Prelude.{◌≡◌, ℕ, ◌≤◌, true, length, take};
+ghost use Rattle.std.specs.Prelude.{◌≡◌, ℕ, ◌<◌, ◌≤◌, true, length, IfSome, take};
+ghost use Rattle.message.specs.Meaning.{security};
+ghost use Rattle.message.specs.Views.{view};
 ghost use Rattle.recovery.specs.State.{slot_in, distinct};
-ghost use Rattle.settling.specs.Slots.{slot_found, Near};
+ghost use Rattle.settling.specs.Slots.{slot_found, slot_named, Near};
 ghost use Rattle.settling.specs.Watched.{watch_of};
 
 use crate::watch::Watch;
+use message::fields::security_of;
+use message::message::Message;
 
 // The first place of an instrument in a list, of which it is known that it is not before `start`.
 fn place_from(list: &[u64], id: u64, start: usize) -> Option<usize>
@@ -35,12 +39,10 @@ fn hints(list: &[u64]) -> [u8; 1024]
     requires { length list.now ≤ 64 }
     ensures { Near result list.now × (length result ≡ 1024) }
 {
-    let n = list.len();
-    let mut first = [n as u8; 1024];
-    let mut k = n;
-    while k > 0 {
-        k -= 1;
-        first[(list[k] % 1024) as usize] = k as u8;
+    let mut first = [list.len() as u8; 1024];
+    for (k, id) in list.iter().enumerate() {
+        let digits = (*id % 1024) as usize;
+        first[digits] = first[digits].min(k as u8);
     }
     first
 }
@@ -82,5 +84,14 @@ impl Watch {
     {
         let start = usize::from(self.first[(id % 1024) as usize]);
         place_from(&self.ids[0..self.count], id, start)
+    }
+
+    // The slot of the instrument that a message names, if it is watched.
+    pub fn named(&self, message: &Message) -> Option<usize>
+        ensures slot { result ≡ slot_named (watch_of self.now) (security (view message.now)) }
+        ensures within { IfSome result (λ q. q < 64) }
+    {
+        let id = security_of(message)?;
+        self.slot(id)
     }
 }

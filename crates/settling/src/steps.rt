@@ -11,7 +11,6 @@ use crate::marks::Event;
 use crate::notes::stands;
 use crate::table::Marks;
 use crate::watch::Watch;
-use message::fields::security_of;
 use message::message::Message;
 use packet::checked::Checked;
 use store::store::Store;
@@ -20,16 +19,14 @@ use store::store::Store;
 fn is_change(m: &Message) -> bool
     ensures { result ≡ is_change (view m.now).layout }
 {
-    match *m {
-        Message::Order(_, _) => true,
-        Message::Delete(_, _) => true,
-        Message::Mass(_, _) => true,
-        Message::Empty(_, _) => true,
-        Message::Stat(_, _) => true,
-        Message::Header(_, _) => false,
-        Message::Entries(_, _) => false,
-        Message::Other(_) => false,
-    }
+    matches!(
+        *m,
+        Message::Order(_, _)
+            | Message::Delete(_, _)
+            | Message::Mass(_, _)
+            | Message::Empty(_, _)
+            | Message::Stat(_, _)
+    )
 }
 
 // What an event makes of the book at a slot.
@@ -61,9 +58,8 @@ fn heed<S: Store>(marks: &mut Marks, store: &mut S, n: u64, slot: usize, m: &Mes
     ensures stays { S.setup store.new ≡ S.setup store.old }
 {
     if is_change(m) && stands(marks.mark(slot), n) {
-        match store.apply(slot, m) {
-            Ok(()) => {}
-            Err(_) => note(marks, store, slot, Event::Misfit),
+        if store.apply(slot, m).is_err() {
+            note(marks, store, slot, Event::Misfit);
         }
     }
 }
@@ -73,10 +69,8 @@ fn hand<S: Store>(marks: &mut Marks, store: &mut S, w: &Watch, n: u64, m: &Messa
     ensures books { Each (S.kind (S.setup store.old)) (watch_of w.now) (feed n (view m.now)) marks.old.at (S.model store.old) marks.new.at (S.model store.new) }
     ensures stays { S.setup store.new ≡ S.setup store.old }
 {
-    if let Some(id) = security_of(m) {
-        if let Some(slot) = w.slot(id) {
-            heed(marks, store, n, slot, m);
-        }
+    if let Some(slot) = w.named(m) {
+        heed(marks, store, n, slot, m);
     }
 }
 

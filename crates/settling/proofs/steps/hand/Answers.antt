@@ -1,17 +1,12 @@
-use Rattle.std.proofs.Common.{refl}
 use Rattle.message.specs.Views.{view}
 use Rattle.settling.specs.Watched.{watch_of}
-use Rattle.settling.proofs.Meeting.{hand_none, hand_one}
+use Rattle.settling.proofs.Meeting.{hand_elsewhere, hand_named}
 use Rattle.settling.proofs.steps.hand.Goals as goal
 
-pub returns-in-Some-slot : goal.returns-in-Some-slot
-returns-in-Some-slot g c = let w = c.args.w.now in record {
-  books = hand_one _ (watch_of w) _ _ c.args.n (view c.args.m.now) _ _ _ _ w.apart c.in-Some.ensures c.in-Some-slot.ensures c.heed.ensures.book;
-  stays = c.heed.ensures.stays;
-}
+pub returns-in-Some-clause-books : goal.returns-in-Some-clause-books
+returns-in-Some-clause-books g c = let w = c.args.w.now in
+    hand_named _ (watch_of w) _ _ c.args.n (view c.args.m.now) _ _ _ w.apart c.in-Some.ensures.slot c.heed.ensures.book
 
-pub returns-in_default-slot : goal.returns-in_default-slot
-returns-in_default-slot g c = let w = c.args.w.now in record {
-  books = hand_none _ (watch_of w) _ _ c.args.n (view c.args.m.now) _ w.apart c.in-Some.ensures c.in_default-slot.ensures;
-  stays = refl;
-}
+pub returns-in_default-clause-books : goal.returns-in_default-clause-books
+returns-in_default-clause-books g c = let w = c.args.w.now in
+    hand_elsewhere _ (watch_of w) _ _ c.args.n (view c.args.m.now) w.apart c.in_default.ensures.slot

@@ -6,18 +6,18 @@ use Rattle.recovery.specs.Groups.{event_steps, message_steps}
 use Rattle.recovery.specs.Log.{event_logs, message_logs}
 use Rattle.receiver.specs.Standings.{opening_of, state_in, bit}
 use Rattle.receiver.proofs.Telling.{few-messages, ahead-start, ahead_next, ahead-end}
-use Rattle.receiver.proofs.messages.follow.Goals as goal
+use Rattle.receiver.proofs.plain.Plain.follow.Goals as goal
 
 pub loop-m-init : goal.loop-m-init
 loop-m-init g c =
     let w = c.walk-walk.result in
-    (ahead-start _ _ _ _ (omega (arith, few-messages w.sheet.now 0 w.rest.now, w.near)), c.requires.1, refl)
+    (ahead-start _ _ _ _ (omega (arith, few-messages w.sheet.now 0 w.rest.now, w.near)), c.requires, refl)
 
 pub loop-m-preserved-then-tell : goal.loop-m-preserved-then-tell
 loop-m-preserved-then-tell g c =
-    let m = g.S.Store in let u = c.args.sub.now in let K = m.kind (m.setup c.args.store.now) in let o = opening_of u in let b = c.args.shelf.now in
+    let m = g.S.Store in let u = c.args.sub.now in let K = m.kind (m.setup c.args.store.now) in let o = opening_of u in let b = c.args.shelf.bytes.now in
     let same = ap m.kind c.loop-m.invariant.2 in let e = c.in-Some.ensures in let last = c.next.new.self in let v = view c.in-Some.m in
-    let p = c.loop-m.plain in let s = m.model c.loop-m.store in let p' = c.tell.new.plain in let s' = m.model c.tell.new.store in
+    let p = c.loop-m.self in let s = m.model c.loop-m.store in let p' = c.tell.new.self in let s' = m.model c.tell.new.store in
     let step = subst (λ z. state_in z u p' s' b ≡ event_steps z o (told v) (state_in z u p s b)) same c.tell.ensures.state in
     let log = subst (λ z. length (event_logs z o (told v) (state_in z u p s b)) ≡ bit c.tell.result) same c.tell.ensures.log in (
       ahead_next K o c.loop-m.adoptions c.tell.result _ _ _ v _ (state_in K u p s b) (state_in K u p' s' b) c.loop-m.invariant.0
@@ -28,9 +28,9 @@ loop-m-preserved-then-tell g c =
 
 pub loop-m-preserved : goal.loop-m-preserved
 loop-m-preserved g c =
-    let m = g.S.Store in let u = c.args.sub.now in let K = m.kind (m.setup c.args.store.now) in let o = opening_of u in let b = c.args.shelf.now in
+    let m = g.S.Store in let u = c.args.sub.now in let K = m.kind (m.setup c.args.store.now) in let o = opening_of u in let b = c.args.shelf.bytes.now in
     let same = ap m.kind c.loop-m.invariant.2 in let e = c.in-Some.ensures in let last = c.next.new.self in let v = view c.in-Some.m in
-    let p = c.loop-m.plain in let s = m.model c.loop-m.store in let p' = c.tell.new.plain in let s' = m.model c.tell.new.store in
+    let p = c.loop-m.self in let s = m.model c.loop-m.store in let p' = c.tell.new.self in let s' = m.model c.tell.new.store in
     let step = subst (λ z. state_in z u p' s' b ≡ event_steps z o (told v) (state_in z u p s b)) same c.tell.ensures.state in
     let log = subst (λ z. length (event_logs z o (told v) (state_in z u p s b)) ≡ bit c.tell.result) same c.tell.ensures.log in (
       ahead_next K o c.loop-m.adoptions c.tell.result _ _ _ v _ (state_in K u p s b) (state_in K u p' s' b) c.loop-m.invariant.0
@@ -41,9 +41,9 @@ loop-m-preserved g c =
 
 pub returns : goal.returns
 returns g c =
-    let m = g.S.Store in let u = c.args.sub.now in let K = m.kind (m.setup c.args.store.now) in let o = opening_of u in let b = c.args.shelf.now in
+    let m = g.S.Store in let u = c.args.sub.now in let K = m.kind (m.setup c.args.store.now) in let o = opening_of u in let b = c.args.shelf.bytes.now in
     let q = ahead-end K o _ _ _ _ _ c.loop-m.invariant.0 c.in_default.ensures.step in
-    let s₀ = state_in K u c.args.plain.now (m.model c.args.store.now) b in
+    let s₀ = state_in K u c.args.self.now (m.model c.args.store.now) b in
     let all = ap₂ (λ y z. messages_from y 0 z) c.walk-walk.ensures.0 c.walk-walk.ensures.1 in
     record {
       state = q.0 ∙ ap (λ z. message_steps K o z s₀) all;

@@ -10,7 +10,7 @@ use Rattle.message.specs.Views.{view}
 use Rattle.recovery.specs.Reading.{adds, told, told_by}
 use Rattle.receiver.specs.Standings.{opening_of, state_in}
 use Rattle.receiver.proofs.Telling.{nothing, only}
-use Rattle.receiver.proofs.messages.tell.Goals as goal
+use Rattle.receiver.proofs.plain.Plain.tell.Goals as goal
 
 -- a message that is none of a snapshot's is read for nothing
 none_told : (x : Message) → ((l : Bor OrderLayout) × (b : Bor (List ℕ)) × (x ≡ Order l b)) ⊎ (((l : Bor DeleteLayout) × (b : Bor (List ℕ)) × (x ≡ Delete l b))
@@ -23,26 +23,26 @@ returns-in-Some g c =
     let m = g.S.Store in let u = c.args.sub.now in let K = m.kind (m.setup c.args.store.now) in let v = view c.args.m.now in
     let is : told v ≡ adds c.in-Some.i (or_torn number (stat_fields c.in-Stat.l.now c.in-Stat.part.now)) ∷ []
     = ap (λ z. told_by v.layout z v.bytes) (sym c.in-Some.ensures) ∙ ap (λ z. told_by (view z).layout (Some c.in-Some.i) (view z).bytes) c.in-Stat.is in
-    let q = only K (opening_of u) v _ (state_in K u c.args.plain.now (m.model c.args.store.now) c.args.shelf.now) _ _ is c.grow.ensures.state c.grow.ensures.log in
+    let q = only K (opening_of u) v _ (state_in K u c.args.self.now (m.model c.args.store.now) c.args.shelf.bytes.now) _ _ is c.grow.ensures.state c.grow.ensures.log in
     record { state = q.0; log = q.1; attends = c.grow.ensures.attends; stays = c.grow.ensures.stays }
 
 pub returns-in-None : goal.returns-in-None
 returns-in-None g c =
     let m = g.S.Store in let u = c.args.sub.now in let K = m.kind (m.setup c.args.store.now) in let v = view c.args.m.now in
     let is : told v ≡ [] = ap (λ z. told_by v.layout z v.bytes) (sym c.in-None.ensures) ∙ ap (λ z. told_by (view z).layout None (view z).bytes) c.in-Stat.is in
-    let q = nothing K (opening_of u) v (state_in K u c.args.plain.now (m.model c.args.store.now) c.args.shelf.now) is in
-    record { state = q.0; log = q.1; attends = c.requires.1; stays = refl }
+    let q = nothing K (opening_of u) v (state_in K u c.args.self.now (m.model c.args.store.now) c.args.shelf.bytes.now) is in
+    record { state = q.0; log = q.1; attends = c.requires; stays = refl }
 
 pub returns-in-None-id : goal.returns-in-None-id
 returns-in-None-id g c =
     let m = g.S.Store in let u = c.args.sub.now in let K = m.kind (m.setup c.args.store.now) in let v = view c.args.m.now in
     let is : told v ≡ [] = ap (λ z. told_by v.layout z v.bytes) (sym c.in-None-id.ensures) ∙ ap (λ z. told_by (view z).layout None (view z).bytes) c.in-Entries.is in
-    let q = nothing K (opening_of u) v (state_in K u c.args.plain.now (m.model c.args.store.now) c.args.shelf.now) is in
-    record { state = q.0; log = q.1; attends = c.requires.1; stays = refl }
+    let q = nothing K (opening_of u) v (state_in K u c.args.self.now (m.model c.args.store.now) c.args.shelf.bytes.now) is in
+    record { state = q.0; log = q.1; attends = c.requires; stays = refl }
 
 pub returns-in-Order : goal.returns-in-Order
 returns-in-Order g c =
     let m = g.S.Store in let u = c.args.sub.now in let K = m.kind (m.setup c.args.store.now) in
     let is : told (view c.args.m.now) ≡ [] = none_told c.args.m.now c.in-Order.is in
-    let q = nothing K (opening_of u) (view c.args.m.now) (state_in K u c.args.plain.now (m.model c.args.store.now) c.args.shelf.now) is in
-    record { state = q.0; log = q.1; attends = c.requires.1; stays = refl }
+    let q = nothing K (opening_of u) (view c.args.m.now) (state_in K u c.args.self.now (m.model c.args.store.now) c.args.shelf.bytes.now) is in
+    record { state = q.0; log = q.1; attends = c.requires; stays = refl }
