@@ -53,10 +53,10 @@ fn write_told(out: &mut String, told: &Told) -> anyhow::Result<()> {
     write_share(out, "current", share.current, packets)?;
     write_share(out, "recovering", share.recovering, packets)?;
     write_share(out, "stale", share.stale, packets)?;
-    let length = share.longest.packets;
-    if length > 0 {
-        let from = share.longest.from;
-        let to = share.longest.to;
+    if let Some(longest) = share.longest {
+        let length = longest.packets;
+        let from = longest.from;
+        let to = longest.to;
         write!(
             out,
             ", longest stale stretch {length} packets, heard {from} to {to}"

@@ -80,14 +80,6 @@ fn write_figures(out: &mut String, figures: &Figures) -> anyhow::Result<()> {
     Ok(())
 }
 
-// Whether a book with these figures is told otherwise than before.
-fn is_new(told: &Option<Figures>, figures: &Figures) -> bool {
-    match told {
-        Some(before) => !figures.same(before),
-        None => true,
-    }
-}
-
 impl<'t> Tells for OrderStore<'t> {
     fn columns(&self) -> &'static str {
         "time,heard,instrument,mark,as_of,bid_price,bid_size,bid_orders,bid_total,offer_price,offer_size,offer_orders,offer_total,spread\n"
@@ -112,7 +104,7 @@ impl<'t> Tells for OrderStore<'t> {
             return Ok(());
         }
         let figures = Figures::of(self.side(slot, Side::Bid), self.side(slot, Side::Offer));
-        if marked || is_new(&told.figures, &figures) {
+        if marked || figures.is_new(told.figures) {
             write_stamp(&mut out.text, stamp)?;
             write_figures(&mut out.text, &figures)?;
             out.rows = out.rows.saturating_add(1);

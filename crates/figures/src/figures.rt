@@ -1,3 +1,5 @@
+ghost use Rattle.std.specs.Prelude.{◌≡◌, ◌≢◌, ◌↔◌, IsTrue, Some};
+
 // the order at position 1 of a side: its price, where it has one, and its size
 #[derive(Clone, Copy, Debug, PartialEq, Eq)]
 pub struct Top {
@@ -18,4 +20,13 @@ pub struct SideFigures {
 pub struct Figures {
     pub bid: SideFigures,
     pub offer: SideFigures,
+}
+
+impl Figures {
+    // Whether a book with these figures is told otherwise than before.
+    pub fn is_new(&self, told: Option<Figures>) -> bool
+        ensures { IsTrue result ↔ (told ≢ Some self.now) }
+    {
+        told != Some(*self)
+    }
 }

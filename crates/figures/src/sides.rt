@@ -8,34 +8,24 @@ use message::values::Order;
 fn price_of(price: i64) -> Option<i64>
     ensures { result ≡ priced price }
 {
-    if price == i64::MIN {
-        return None;
-    }
-    Some(price)
+    (price != i64::MIN).then_some(price)
 }
 
 // The order at position 1.
 fn top_of(orders: &[Order]) -> Option<Top>
     ensures { result ≡ top_of orders.now }
 {
-    match orders {
-        [] => None,
-        [first, ..] => Some(Top {
-            price: price_of(first.price),
-            size: first.size,
-        }),
-    }
+    orders.first().map(|first| Top {
+        price: price_of(first.price),
+        size: first.size,
+    })
 }
 
 // The sizes of all orders together, which never wrap.
 fn total_of(orders: &[Order]) -> u128
     ensures { result ≡ total_of orders.now }
 {
-    let mut total: u128 = 0;
-    for order in orders {
-        total += u128::from(order.size);
-    }
-    total
+    orders.iter().map(|order| u128::from(order.size)).sum()
 }
 
 impl SideFigures {

@@ -8,10 +8,7 @@ impl SideFigures {
     pub fn price(&self) -> Option<i64>
         ensures { result ≡ price_of self.now.top }
     {
-        match self.top {
-            Some(top) => top.price,
-            None => None,
-        }
+        self.top?.price
     }
 }
 

@@ -1,5 +1,5 @@
 -- Shares stand by the list of marks, however many are noted at once.
-use Rattle.std.proofs.Common.{◌≡◌, ℕ, zero, suc, ◌+◌, ◌≤◌, max, Bool, true, false, cond, eqb, List, [], ◌∷◌, ◌++◌, length, replicate, count_by, sym, refl, ap, ◌∙◌, subst, arith}
+use Rattle.std.proofs.Common.{◌≡◌, ℕ, zero, suc, ◌+◌, ◌<◌, ◌≤◌, max, Bool, true, false, cond, eqb, List, [], ◌∷◌, ◌++◌, length, replicate, Some, None, Option, count_by, sym, refl, ap, ◌∙◌, subst, arith}
 use Rattle.std.specs.List.{prefix_len}
 use Rattle.std.proofs.lemmas.List.Sums.{sum_by-cons}
 use Rattle.std.proofs.lemmas.Bool.{cond-false, ne_eqb}
@@ -8,7 +8,7 @@ use Rattle.recovery.specs.declared.answers.Sign.TheVariants.{Stale, Recovering, 
 use Rattle.shares.specs.declared.share.Stretch.{Stretch}
 use Rattle.shares.specs.declared.share.Share.{Share}
 use Rattle.shares.specs.Noted.{capped, noted, noted_some, further, longer}
-use Rattle.shares.specs.Stands.{Stands, is_current, is_recovering, is_stale, longest_of}
+use Rattle.shares.specs.Stands.{Stands, Stretches, is_current, is_recovering, is_stale, longest_of}
 
 -- as many more as are noted where they count, and none where they do not
 pub count-more : (p : Sign → Bool) (x : Sign) (k : ℕ) (l : List Sign) → p x ≡ true → count_by p (replicate k x ++ l) ≡ count_by p l + k
@@ -45,17 +45,31 @@ pub longest_same : (x : Sign) (k : ℕ) (l : List Sign) → is_stale x ≡ false
 longest_same x zero l e = refl
 longest_same x (suc k) l e = omega (arith, longest_same x k l e, leading_ended x (replicate k x ++ l) e)
 
-pub longer-max : (a b : Stretch) → (longer a b).packets ≡ max a.packets b.packets
+further_stretches : (o : Option Stretch) (n k from to : ℕ) → 0 < k → Stretches o n → Stretches (Some (further o k from to)) (n + k)
+further_stretches None n k from to some h = (omega arith, omega (arith, h))
+further_stretches (Some s) n k from to some h = (omega arith, omega (arith, h.1))
+
+longer-max : (a b : Stretch) → (longer (Some a) b).packets ≡ max a.packets b.packets
 longer-max a b = grind arith
 
-stale_stands : (s : Share) (k from to : ℕ) (marks : List Sign) → Stands s marks → Stands (noted_some s Stale k from to) (replicate k Stale ++ marks)
-stale_stands s k from to marks h = record {
-  currents = h.currents ∙ ap capped (sym (count_same is_current Stale k marks refl));
-  recoverings = h.recoverings ∙ ap capped (sym (count_same is_recovering Stale k marks refl));
-  stales = omega (arith, h.stales, count-more is_stale Stale k marks refl);
-  since = omega (arith, h.since, leading_more k marks);
-  most = omega (arith, h.since, h.most, longest_more k marks, longer-max s.longest (further s.now_stale k from to));
-}
+longer_stretches : (o : Option Stretch) (t : Stretch) (n m : ℕ) → Stretches o n → Stretches (Some t) m → Stretches (Some (longer o t)) (max n m)
+longer_stretches None t n m h g = (omega (arith, g.0), omega (arith, h, g.1))
+longer_stretches (Some a) t n m h g = (omega (arith, g.0), omega (arith, h.1, g.1, longer-max a t))
+
+as_long : (o : Option Stretch) (n m : ℕ) → n ≡ m → Stretches o m → Stretches o n
+as_long o n m e h = subst (λ (k : ℕ). Stretches o k) (sym e) h
+
+stale_stands : (s : Share) (k from to : ℕ) (marks : List Sign) → 0 < k → Stands s marks → Stands (noted_some s Stale k from to) (replicate k Stale ++ marks)
+stale_stands s k from to marks some h =
+    let next = further s.now_stale k from to in
+    let here = further_stretches s.now_stale (prefix_len is_stale marks) k from to some h.since in
+    record {
+      currents = h.currents ∙ ap capped (sym (count_same is_current Stale k marks refl));
+      recoverings = h.recoverings ∙ ap capped (sym (count_same is_recovering Stale k marks refl));
+      stales = omega (arith, h.stales, count-more is_stale Stale k marks refl);
+      since = as_long (Some next) _ _ (leading_more k marks) here;
+      most = as_long (Some (longer s.longest next)) _ _ (longest_more k marks) (longer_stretches s.longest next _ _ h.most here);
+    }
 
 current-stands : (s : Share) (k from to : ℕ) (marks : List Sign) → Stands s marks → Stands (noted_some s Current (suc k) from to) (replicate (suc k) Current ++ marks)
 current-stands s k from to marks h = record {
@@ -63,7 +77,7 @@ current-stands s k from to marks h = record {
   recoverings = h.recoverings ∙ ap capped (sym (count_same is_recovering Current (suc k) marks refl));
   stales = h.stales ∙ ap capped (sym (count_same is_stale Current (suc k) marks refl));
   since = refl;
-  most = h.most ∙ ap capped (sym (longest_same Current (suc k) marks refl));
+  most = as_long s.longest _ _ (longest_same Current (suc k) marks refl) h.most;
 }
 
 recovering_stands : (s : Share) (k from to : ℕ) (marks : List Sign) → Stands s marks → Stands (noted_some s Recovering (suc k) from to) (replicate (suc k) Recovering ++ marks)
@@ -72,7 +86,7 @@ recovering_stands s k from to marks h = record {
   recoverings = omega (arith, h.recoverings, count-more is_recovering Recovering (suc k) marks refl);
   stales = h.stales ∙ ap capped (sym (count_same is_stale Recovering (suc k) marks refl));
   since = refl;
-  most = h.most ∙ ap capped (sym (longest_same Recovering (suc k) marks refl));
+  most = as_long s.longest _ _ (longest_same Recovering (suc k) marks refl) h.most;
 }
 
 some_noted : (s : Share) (sign : Sign) (k from to : ℕ) (l : List Sign) → Stands (noted_some s sign (suc k) from to) l → Stands (noted s sign (suc k) from to) l
@@ -81,7 +95,7 @@ some_noted s sign k from to l h =
 
 pub noted-stands : (s : Share) (sign : Sign) (k from to : ℕ) (marks : List Sign) → Stands s marks → Stands (noted s sign k from to) (replicate k sign ++ marks)
 noted-stands s sign zero from to marks h = h
-noted-stands s Stale (suc k) from to marks h = some_noted s Stale k from to _ (stale_stands s (suc k) from to marks h)
+noted-stands s Stale (suc k) from to marks h = some_noted s Stale k from to _ (stale_stands s (suc k) from to marks (omega arith) h)
 noted-stands s Current (suc k) from to marks h = some_noted s Current k from to _ (current-stands s k from to marks h)
 noted-stands s Recovering (suc k) from to marks h = some_noted s Recovering k from to _ (recovering_stands s k from to marks h)
 

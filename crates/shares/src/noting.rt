@@ -6,33 +6,31 @@ ghost use Rattle.shares.specs.Stands.{Stands};
 use crate::share::{Share, Stretch};
 use recovery::answers::Sign;
 
-const NO_STRETCH: Stretch = Stretch {
-    packets: 0,
-    from: 0,
-    to: 0,
-};
-
-impl Stretch {
-    // So many packets more, at the first and the last of which these numbers were heard.
-    fn further(self, times: u64, from: u64, to: u64) -> Stretch
-        ensures { result ≡ further self times from to }
-    {
-        let first = if self.packets == 0 { from } else { self.from };
-        Stretch {
-            packets: self.packets.saturating_add(times),
-            from: first,
+// A stretch with so many packets more, at the first and the last of which these numbers were heard.
+fn further(before: Option<Stretch>, times: u64, from: u64, to: u64) -> Stretch
+    ensures { result ≡ further before times from to }
+{
+    match before {
+        Some(stretch) => Stretch {
+            packets: stretch.packets.saturating_add(times),
             to,
-        }
+            ..stretch
+        },
+        None => Stretch {
+            packets: times,
+            from,
+            to,
+        },
     }
+}
 
-    // The longer of two.
-    fn longer(self, other: Stretch) -> Stretch
-        ensures { result ≡ longer self other }
-    {
-        if self.packets < other.packets {
-            return other;
-        }
-        self
+// The longer of two, and the first where they are as long.
+fn longer(longest: Option<Stretch>, stretch: Stretch) -> Stretch
+    ensures { result ≡ longer longest stretch }
+{
+    match longest {
+        Some(longest) if longest.packets >= stretch.packets => longest,
+        _ => stretch,
     }
 }
 
@@ -42,13 +40,7 @@ impl Share {
         ensures value { result ≡ nothing }
         ensures law { Stands result [] }
     {
-        Share {
-            current: 0,
-            recovering: 0,
-            stale: 0,
-            now_stale: NO_STRETCH,
-            longest: NO_STRETCH,
-        }
+        Share::default()
     }
 
     // Notes the mark that a book had at so many packets, at the first and the last of which these numbers were heard.
@@ -68,16 +60,17 @@ impl Share {
         match sign {
             Sign::Current => {
                 self.current = self.current.saturating_add(times);
-                self.now_stale = NO_STRETCH;
+                self.now_stale = None;
             }
             Sign::Recovering => {
                 self.recovering = self.recovering.saturating_add(times);
-                self.now_stale = NO_STRETCH;
+                self.now_stale = None;
             }
             Sign::Stale => {
                 self.stale = self.stale.saturating_add(times);
-                self.now_stale = self.now_stale.further(times, from, to);
-                self.longest = self.longest.longer(self.now_stale);
+                let stretch = further(self.now_stale, times, from, to);
+                self.now_stale = Some(stretch);
+                self.longest = Some(longer(self.longest, stretch));
             }
         }
     }

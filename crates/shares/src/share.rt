@@ -8,11 +8,11 @@ pub struct Stretch {
 
 // at how many packets a book was current, recovering and stale, the packets at which it has been stale up to now, and the longest
 // such stretch
-#[derive(Clone, Copy, Debug, PartialEq, Eq)]
+#[derive(Clone, Copy, Debug, Default, PartialEq, Eq)]
 pub struct Share {
     pub current: u64,
     pub recovering: u64,
     pub stale: u64,
-    pub now_stale: Stretch,
-    pub longest: Stretch,
+    pub now_stale: Option<Stretch>,
+    pub longest: Option<Stretch>,
 }

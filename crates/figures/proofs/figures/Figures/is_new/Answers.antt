@@ -1,0 +1,5 @@
+use Rattle.figures.proofs.Same.{books, told}
+use Rattle.figures.proofs.figures.Figures.is_new.Goals as goal
+
+pub returns : goal.returns
+returns c = told _ _ c.args.told c.args.self.now books c.ne.ensures
