@@ -13,7 +13,6 @@ module _ (s t : Rows) (k : ℕ) (i : 2 * k + 1 < s.count) where
   bids-put l p = record {
     here = same-book _ _ _ _ p.here (p.others (2 * k + 1) i (λ e. omega arith));
     others = λ j b ne. same-book _ _ _ _ (p.others (2 * j) (omega arith) (λ e. ne (omega arith))) (p.others (2 * j + 1) b (λ e. omega arith));
-    held = p.held;
     depth = p.depth;
     count = p.count;
   }
@@ -22,7 +21,6 @@ module _ (s t : Rows) (k : ℕ) (i : 2 * k + 1 < s.count) where
   offers-put l p = record {
     here = same-book _ _ _ _ (p.others (2 * k) (omega arith) (λ e. omega arith)) p.here;
     others = λ j b ne. same-book _ _ _ _ (p.others (2 * j) (omega arith) (λ e. omega arith)) (p.others (2 * j + 1) b (λ e. ne (omega arith)));
-    held = p.held;
     depth = p.depth;
     count = p.count;
   }
@@ -36,7 +34,6 @@ module _ (s t : Rows) (k : ℕ) (i : 2 * k + 1 < s.count) where
         others = λ j b ne. same-book _ _ _ _
             (q.others (2 * j) (at _ (omega arith)) (λ e. omega arith) ∙ p.others (2 * j) (omega arith) (λ e. ne (omega arith)))
             (q.others (2 * j + 1) (at _ b) (λ e. ne (omega arith)) ∙ p.others (2 * j + 1) b (λ e. omega arith));
-        held = q.held;
         depth = q.depth ∙ p.depth;
         count = q.count ∙ p.count;
       }

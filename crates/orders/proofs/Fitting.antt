@@ -4,7 +4,7 @@ use Rattle.std.proofs.lemmas.List.{append-nil, drop_all}
 use Rattle.std.proofs.lemmas.Bool.{le-leb}
 use Rattle.positions.specs.Positions.{fits_cut, fits_change, cut_out}
 use Rattle.orders.specs.declared.rows.Rows.{Rows}
-use Rattle.orders.specs.Rows.{Held, row}
+use Rattle.orders.specs.Rows.{row}
 use Rattle.orders.specs.Edits.{taken}
 use Rattle.orders.proofs.Putting.{row-length}
 
@@ -16,8 +16,8 @@ pub and_given : (x y : Bool) → x ≡ true → y ≡ (x && y)
 and_given true y e = refl
 and_given false y e = absurd (let z : ◌≡◌ {A = ℕ} 0 1 = cc in omega arith)
 
-pub row_room : (s : Rows) (r : ℕ) → Held s → r < s.count → length (row s r) ≤ s.depth
-row_room s r h i = omega (arith, row-length s r h i, h.within r i)
+pub row_room : (s : Rows) (r : ℕ) → r < s.count → length (row s r) ≤ s.depth
+row_room s r i = omega (arith, row-length s r i, s.within r i)
 
 module _ (d n p : ℕ) (l : n ≤ d) where
   pub change_taken : fits_change d n p ≡ taken n p

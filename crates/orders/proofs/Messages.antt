@@ -8,10 +8,10 @@ use Rattle.message.specs.declared.values.MassFields.{MassFields}
 use Rattle.positions.specs.Positions.{fits_change, fits_cut, changed_at, cut_out}
 use Rattle.orders.specs.declared.rows.Rows.{Rows}
 use Rattle.orders.specs.Edits.{fits_order, after_order, fits_mass, after_mass}
-use Rattle.orders.specs.Rows.{Held, Puts, row}
+use Rattle.orders.specs.Rows.{Puts, row}
 use Rattle.orders.proofs.Fitting.{and_given, row_room, change_taken, top_taken, bottom_taken, bottom_cut}
 
-module _ (s t : Rows) (r : ℕ) (b : Bool) (h : Held s) (i : r < s.count) where
+module _ (s t : Rows) (r : ℕ) (b : Bool) (i : r < s.count) where
   instead : (l m : List Order) → m ≡ l → Puts s t r (cond b l (row s r)) → Puts s t r (cond b m (row s r))
   instead l m e p = subst (λ z. Puts s t r (cond b z (row s r))) (sym e) p
 
@@ -20,7 +20,7 @@ module _ (s t : Rows) (r : ℕ) (b : Bool) (h : Held s) (i : r < s.count) where
       → (b ≡ fits_order a s.depth (length (row s r)) f) × Puts s t r (cond b (after_order a (row s r) f) (row s r))
   order_change a f ne e fits puts =
       let no = ne_eqb f.action a.new ne in (
-        fits ∙ (change_taken s.depth (length (row s r)) f.position (row_room s r h i)
+        fits ∙ (change_taken s.depth (length (row s r)) f.position (row_room s r i)
             ∙ (and_given (eqb f.action a.change) _ (eq-eqb _ _ e) ∙ sym (cond-false _ _ _ no))),
         instead _ _ (cond-false _ _ _ no) puts,
       )
@@ -30,7 +30,7 @@ module _ (s t : Rows) (r : ℕ) (b : Bool) (h : Held s) (i : r < s.count) where
       → (b ≡ fits_mass a (length (row s r)) f) × Puts s t r (cond b (after_mass a (row s r) f) (row s r))
   mass_top a f e fits puts =
       let yes = eq-eqb f.action a.topcut e in (
-        fits ∙ (top_taken s.depth (length (row s r)) f.position (row_room s r h i) ∙ and_given _ _ (or_left _ _ yes)),
+        fits ∙ (top_taken s.depth (length (row s r)) f.position (row_room s r i) ∙ and_given _ _ (or_left _ _ yes)),
         instead _ _ (cond-true _ _ _ yes) puts,
       )
 
@@ -40,6 +40,6 @@ module _ (s t : Rows) (r : ℕ) (b : Bool) (h : Held s) (i : r < s.count) where
   mass_bottom a f n m ne e fits puts =
       let no = ne_eqb f.action a.topcut ne in (
         fits ∙ (ap (fits_cut s.depth (length (row s r)) f.position) m
-            ∙ (bottom_taken s.depth (length (row s r)) f.position (row_room s r h i) ∙ and_given _ _ (or_right _ _ (eq-eqb _ _ e)))),
+            ∙ (bottom_taken s.depth (length (row s r)) f.position (row_room s r i) ∙ and_given _ _ (or_right _ _ (eq-eqb _ _ e)))),
         instead _ _ (cond-false _ _ _ no ∙ sym (bottom_cut (row s r) f.position n m)) puts,
       )

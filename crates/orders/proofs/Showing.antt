@@ -9,7 +9,7 @@ use Rattle.orders.specs.declared.order_store.OrderStore.{OrderStore}
 use Rattle.orders.specs.declared.side.Side.{Side}
 use Rattle.orders.specs.declared.side.Side.TheVariants.{Bid, Offer}
 use Rattle.orders.specs.Book.{empty_book}
-use Rattle.orders.specs.Rows.{Held, row}
+use Rattle.orders.specs.Rows.{row}
 use Rattle.orders.specs.Shown.{of_side, at_position, shown}
 use Rattle.orders.proofs.Putting.{row-length}
 use Rattle.orders.proofs.Slots.{books, books-length, book-value}
@@ -21,12 +21,12 @@ pub none_past : (xs : List Order) (p : ℕ) → length xs < p → None ≡ at_po
 none_past xs p h = sym (cond-true _ _ _ (lt-ltb 0 p (omega arith)) ∙ slice_get_past xs (p - 1) (omega arith))
 
 -- an order of a row is one of the table
-pub at_row : (s : Rows) (r p : ℕ) (d : Order) → Held s → r < s.count → (p ≡ 0 → ⊥) → p ≤ get_or s.lens r 0 → Some (get_or s.table.now (r * s.depth + (p - 1)) d) ≡ at_position (row s r) p
-at_row s r p d h i ne l =
+pub at_row : (s : Rows) (r p : ℕ) (d : Order) → r < s.count → (p ≡ 0 → ⊥) → p ≤ get_or s.lens r 0 → Some (get_or s.table.now (r * s.depth + (p - 1)) d) ≡ at_position (row s r) p
+at_row s r p d i ne l =
     let n = get_or s.lens r 0 in
     let k : p - 1 < get_or s.lens r 0 = omega (arith, ne) in
     let e = get_or-take n (drop (r * s.depth) s.table.now) (p - 1) d k ∙ get_or-drop (r * s.depth) s.table.now (p - 1) d in
-    sym (cond-true _ _ _ (lt-ltb 0 p (omega arith)) ∙ (slice_get-get_or (row s r) (p - 1) d (omega (arith, row-length s r h i)) ∙ ap Some e))
+    sym (cond-true _ _ _ (lt-ltb 0 p (omega arith)) ∙ (slice_get-get_or (row s r) (p - 1) d (omega (arith, row-length s r i)) ∙ ap Some e))
 
 pub none-shown : (s : OrderStore) (i : ℕ) (side : Side) → s.slots ≤ i → [] ≡ shown s i side
 none-shown s i Bid h = ap (λ v. v.bids) (sym (get_or_past (books s.rows s.slots) i empty_book (omega (arith, books-length s.rows s.slots))))

@@ -11,7 +11,7 @@ use Rattle.orders.specs.declared.rows.Rows.{Rows}
 use Rattle.orders.specs.declared.order_store.OrderStore.{OrderStore}
 use Rattle.orders.specs.Book.{Book}
 use Rattle.orders.specs.Kind.{Setup, orders}
-use Rattle.orders.specs.Rows.{Held, PutsBook, row, book_at}
+use Rattle.orders.specs.Rows.{PutsBook, row, book_at}
 
 abbrev pub books : Rows → ℕ → List Book
 books r n = map (book_at r) (range_with_len 1 n)
@@ -50,37 +50,25 @@ module _ (o : Setup) (r t : Rows) (n : ℕ) (c : r.count ≡ 2 * n + 2) where
 
 -- a store stays sound where another book than the staged one is put
 pub record Sound (s : OrderStore) (t : Rows) (w : Due) : Type 0 where
-  pub lens : length t.lens ≡ 130
   pub shallow : t.depth ≤ 1024
   pub count : t.count ≡ 2 * s.slots + 2
-  pub table : t.count * t.depth ≤ length t.table.now
-  pub within : (r : ℕ) → r < t.count → get_or t.lens r 0 ≤ t.depth
   pub bids : length (row t 0) + w.bids ≤ t.depth
   pub offers : length (row t 1) + w.offers ≤ t.depth
-
-pub held_of : (s : OrderStore) → Held s.rows
-held_of s = record { lens = s.lens; count = omega (arith, s.few, s.count); table = s.table; within = s.within }
 
 pub sound_slot : (s : OrderStore) (t : Rows) (i : ℕ) (v : Book) → i < s.slots → PutsBook s.rows t (i + 1) v → Sound s t s.owed
 sound_slot s t i v h p =
     let e : book_at t 0 ≡ book_at s.rows 0 = p.others 0 (omega (arith, s.count)) (λ z. omega arith) in
     record {
-      lens = p.held.lens;
       shallow = omega (arith, p.depth, s.shallow);
       count = p.count ∙ s.count;
-      table = p.held.table;
-      within = p.held.within;
       bids = omega (arith, s.bids, p.depth, ap (λ z. length z.bids) e);
       offers = omega (arith, s.offers, p.depth, ap (λ z. length z.offers) e);
     }
 
 pub sound-staged : (s : OrderStore) (t : Rows) (v : Book) (w : Due) → PutsBook s.rows t 0 v → length v.bids + w.bids ≤ s.rows.depth → length v.offers + w.offers ≤ s.rows.depth → Sound s t w
 sound-staged s t v w p b o = record {
-  lens = p.held.lens;
   shallow = omega (arith, p.depth, s.shallow);
   count = p.count ∙ s.count;
-  table = p.held.table;
-  within = p.held.within;
   bids = omega (arith, p.depth, ap (λ z. length z.bids) p.here);
   offers = omega (arith, p.depth, ap (λ z. length z.offers) p.here);
 }

@@ -3,7 +3,7 @@ ghost use Rattle.message.specs.Views.{meant};
 ghost use Rattle.orders.specs.Book.{is_side, side_of};
 ghost use Rattle.orders.specs.Edits.{taken, fits_order, fits_mass};
 ghost use Rattle.orders.specs.Kind.{setup, fits_book, after_book};
-ghost use Rattle.orders.specs.Rows.{Held, PutsBook, book_at};
+ghost use Rattle.orders.specs.Rows.{PutsBook, book_at};
 
 use crate::rows::Rows;
 use crate::sides::{fits_delete, fits_mass, fits_order, row_of};
@@ -14,7 +14,7 @@ use message::values::{DeleteFields, MassFields, OrderFields};
 
 impl<'t> Rows<'t> {
     fn order_fits(&self, a: Actions, book: usize, f: &OrderFields) -> bool
-        requires { (Held self.now) × (2 * book + 1 < self.now.count) }
+        requires { 2 * book + 1 < self.now.count }
         ensures { result ≡ (is_side f.now.side && fits_order a self.now.depth (length (side_of (book_at self.now book) f.now.side)) f.now) }
     {
         match row_of(book, f.side) {
@@ -24,7 +24,7 @@ impl<'t> Rows<'t> {
     }
 
     fn delete_fits(&self, book: usize, f: &DeleteFields) -> bool
-        requires { (Held self.now) × (2 * book + 1 < self.now.count) }
+        requires { 2 * book + 1 < self.now.count }
         ensures { result ≡ (is_side f.now.side && taken (length (side_of (book_at self.now book) f.now.side)) f.now.position) }
     {
         match row_of(book, f.side) {
@@ -34,7 +34,7 @@ impl<'t> Rows<'t> {
     }
 
     fn mass_fits(&self, a: Actions, book: usize, f: &MassFields) -> bool
-        requires { (Held self.now) × (2 * book + 1 < self.now.count) }
+        requires { 2 * book + 1 < self.now.count }
         ensures { result ≡ (is_side f.now.side && fits_mass a (length (side_of (book_at self.now book) f.now.side)) f.now) }
     {
         match row_of(book, f.side) {
@@ -45,7 +45,7 @@ impl<'t> Rows<'t> {
 
     // Whether a message fits a book.
     pub(crate) fn fits_in(&self, a: Actions, book: usize, m: &Message) -> bool
-        requires { (Held self.now) × (2 * book + 1 < self.now.count) }
+        requires { 2 * book + 1 < self.now.count }
         ensures { result ≡ fits_book (setup a self.now.depth) (book_at self.now book) (meant m.now) }
     {
         match *m {
@@ -74,7 +74,7 @@ impl<'t> Rows<'t> {
 
     // Changes a book by a message, where it fits.
     pub(crate) fn apply_in(&mut self, a: Actions, book: usize, m: &Message) -> bool
-        requires { (Held self.old) × (2 * book + 1 < self.old.count) }
+        requires { 2 * book + 1 < self.old.count }
         ensures fits { result ≡ fits_book (setup a self.old.depth) (book_at self.old book) (meant m.now) }
         ensures puts { PutsBook self.old self.new book (if result then after_book (setup a self.old.depth) (book_at self.old book) (meant m.now) else book_at self.old book) }
     {

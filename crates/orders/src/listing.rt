@@ -1,5 +1,5 @@
 ghost use Rattle.std.specs.Prelude.{◌≡◌, ◌<◌};
-ghost use Rattle.orders.specs.Rows.{Held, row};
+ghost use Rattle.orders.specs.Rows.{row};
 ghost use Rattle.orders.specs.Shown.{shown};
 
 use crate::order_store::OrderStore;
@@ -11,7 +11,7 @@ use message::values::Order;
 impl<'t> Rows<'t> {
     // The orders of a row.
     fn list(&self, r: usize) -> &[Order]
-        requires { (Held self.now) × (r < self.now.count) }
+        requires { r < self.now.count }
         ensures { result.now ≡ row self.now r }
     {
         let from = r * self.depth;

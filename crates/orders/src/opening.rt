@@ -3,7 +3,7 @@ ghost use Rattle.store.specs.declared.fault.StoreFault.TheVariants.{Opening};
 ghost use Rattle.store.specs.Kind.{New};
 ghost use Rattle.orders.specs.Kind.{Setup, orders};
 ghost use Rattle.orders.specs.Opening.{may_open, slots_in};
-ghost use Rattle.orders.specs.Rows.{Held, row};
+ghost use Rattle.orders.specs.Rows.{row};
 ghost use Rattle.orders.specs.Model.{setup_of, model_of};
 
 use crate::due::Due;
@@ -42,7 +42,6 @@ pub fn count_slots(depth: usize, room: usize) -> Result<usize, StoreFault>
 // Rows with no orders, whatever the table held.
 fn empty_rows<'t>(table: &'t mut [Order], depth: usize, count: usize) -> Rows<'t>
     requires { (count ≤ 130) × (count * depth ≤ length table.old) }
-    ensures held { Held result }
     ensures rows { (r : ℕ) → row result r ≡ [] }
     ensures size { (result.depth ≡ depth) × (result.count ≡ count) }
 {

@@ -1,4 +1,4 @@
-ghost use Rattle.std.specs.Prelude.{◌≡◌, ℕ, ◌+◌, ◌*◌, ◌<◌, ◌≤◌, length, slice_index};
+ghost use Rattle.std.specs.Prelude.{◌≡◌, ◌+◌, ◌*◌, ◌≤◌, length};
 ghost use Rattle.orders.specs.Rows.{row};
 
 use crate::due::Due;
@@ -12,12 +12,9 @@ pub struct OrderStore<'t> {
     pub(crate) slots: usize,
     pub(crate) actions: Actions,
     pub(crate) owed: Due,
-    ghost lens: { length rows.lens ≡ 130 },
     ghost few: { slots ≤ 64 },
     ghost shallow: { rows.depth ≤ 1024 },
     ghost count: { rows.count ≡ 2 * slots + 2 },
-    ghost table: { rows.count * rows.depth ≤ length rows.table.now },
-    ghost within: { (r : ℕ) → r < rows.count → slice_index rows.lens r ≤ rows.depth },
     ghost bids: { length (row rows 0) + owed.bids ≤ rows.depth },
     ghost offers: { length (row rows 1) + owed.offers ≤ rows.depth },
 }

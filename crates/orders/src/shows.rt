@@ -1,5 +1,5 @@
 ghost use Rattle.std.specs.Prelude.{◌≡◌, ◌+◌, ◌*◌, ◌<◌, length};
-ghost use Rattle.orders.specs.Rows.{Held, row};
+ghost use Rattle.orders.specs.Rows.{row};
 ghost use Rattle.orders.specs.Shown.{of_side, at_position, shown};
 
 use crate::order_store::OrderStore;
@@ -20,7 +20,7 @@ pub(crate) fn row_at(book: usize, side: Side) -> usize
 impl<'t> Rows<'t> {
     // The order at a position of a row.
     fn at(&self, r: usize, position: usize) -> Option<Order>
-        requires { (Held self.now) × (r < self.now.count) }
+        requires { r < self.now.count }
         ensures { result ≡ at_position (row self.now r) position }
     {
         if position == 0 {

@@ -1,7 +1,7 @@
 ghost use Rattle.std.specs.Prelude.{◌≡◌, ◌+◌, ◌*◌, ◌<◌, ◌≤◌, length, if◌then◌else◌, Some, None};
 ghost use Rattle.orders.specs.Book.{is_side, on_side};
 ghost use Rattle.orders.specs.Edits.{taken, fits_order, after_order, fits_mass, after_mass, after_delete};
-ghost use Rattle.orders.specs.Rows.{Held, Puts, row};
+ghost use Rattle.orders.specs.Rows.{Puts, row};
 
 use crate::rows::Rows;
 use layout::kinds::Actions;
@@ -47,7 +47,7 @@ pub(crate) fn fits_mass(a: Actions, n: usize, f: &MassFields) -> bool
 // What a message does to a side, where it fits.
 impl<'t> Rows<'t> {
     pub(crate) fn put(&mut self, a: Actions, r: usize, f: &OrderFields) -> bool
-        requires { (Held self.old) × (r < self.old.count) }
+        requires { r < self.old.count }
         ensures fits { result ≡ fits_order a self.old.depth (length (row self.old r)) f.now }
         ensures puts { Puts self.old self.new r (if result then after_order a (row self.old r) f.now else row self.old r) }
     {
@@ -61,7 +61,7 @@ impl<'t> Rows<'t> {
     }
 
     pub(crate) fn delete(&mut self, r: usize, position: u64) -> bool
-        requires { (Held self.old) × (r < self.old.count) }
+        requires { r < self.old.count }
         ensures fits { result ≡ taken (length (row self.old r)) position }
         ensures puts { Puts self.old self.new r (if result then after_delete (row self.old r) position else row self.old r) }
     {
@@ -69,7 +69,7 @@ impl<'t> Rows<'t> {
     }
 
     pub(crate) fn mass(&mut self, a: Actions, r: usize, f: &MassFields) -> bool
-        requires { (Held self.old) × (r < self.old.count) }
+        requires { r < self.old.count }
         ensures fits { result ≡ fits_mass a (length (row self.old r)) f.now }
         ensures puts { Puts self.old self.new r (if result then after_mass a (row self.old r) f.now else row self.old r) }
     {

@@ -10,7 +10,7 @@ pub invariant_of-self : goal.invariant_of-self
 invariant_of-self c =
     let s = c.args.self.now in
     let k = sound_slot s _ c.args.slot _ (in_slots s c.args.slot c.requires) c.apply_in.ensures.puts in
-    record { lens = k.lens; few = s.few; shallow = k.shallow; count = k.count; table = k.table; within = k.within; bids = k.bids; offers = k.offers }
+    record { few = s.few; shallow = k.shallow; count = k.count; bids = k.bids; offers = k.offers }
 
 pub returns : goal.returns
 returns c =

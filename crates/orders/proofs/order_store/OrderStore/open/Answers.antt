@@ -13,12 +13,9 @@ pub invariant_of-result : goal.invariant_of-result
 invariant_of-result c =
     let e = c.empty_rows.ensures in
     record {
-      lens = e.held.lens;
       few = omega (arith, c.slots_in-slots.ensures);
       shallow = omega (arith, e.size.0, (open_bounds c.args.depth (length c.args.table.now) c.requires).1);
       count = e.size.1;
-      table = e.held.table;
-      within = e.held.within;
       bids = omega (arith, ap length (e.rows 0));
       offers = omega (arith, ap length (e.rows 1));
     }

@@ -1,14 +1,7 @@
 use Rattle.std.proofs.Common.{◌≡◌, ℕ, ◌+◌, ◌-◌, ◌*◌, get_or, take, refl, ap, ◌∙◌, arith, rules}
 use Rattle.positions.specs.Positions.{fits_change, changed_at}
-use Rattle.orders.proofs.Spans.{span_in}
 use Rattle.orders.proofs.Putting.{row-length, part_length, part_row, part_same, either}
 use Rattle.orders.proofs.rows.Rows.change.Goals as goal
-
-pub offset_bounds-self-base : goal.offset_bounds-self-base
-offset_bounds-self-base c = let h = span_in c.args.r c.args.self.now.count c.args.self.now.depth _ c.requires.1 c.requires.0.table in search rules
-
-pub slice_bounds-change-end : goal.slice_bounds-change-end
-slice_bounds-change-end c = let h = span_in c.args.r c.args.self.now.count c.args.self.now.depth _ c.requires.1 c.requires.0.table in search rules
 
 pub returns : goal.returns
 returns c =
@@ -18,13 +11,12 @@ returns c =
     let p = c.args.p in
     let k : ℕ = r * s.depth + s.depth - r * s.depth in
     let w : r * s.depth + s.depth - r * s.depth ≡ s.depth = omega arith in
-    let h = c.requires.0 in
-    let i = c.requires.1 in
-    let y = part_length s r k h i w in
+    let i = c.requires in
+    let y = part_length s r k i w in
     record {
-      fits = c.change.ensures.fits ∙ (ap (λ z. fits_change z n p) y ∙ ap (λ z. fits_change s.depth z p) (row-length s r h i));
-      puts = part_same s r k h i w _ c.change.new.table (search rules) refl _
+      fits = c.change.ensures.fits ∙ (ap (λ z. fits_change z n p) y ∙ ap (λ z. fits_change s.depth z p) (row-length s r i));
+      puts = part_same s r k i w _ c.change.new.table (search rules) refl refl refl _ refl
           (either c.change.result _ _ _
-          (λ yes. c.change.ensures.list yes ∙ ap (λ z. changed_at z p c.args.x) (part_row s r k h i w))
-          (λ no. ap (λ z. take n z) (c.change.ensures.refused no) ∙ part_row s r k h i w));
+          (λ yes. c.change.ensures.list yes ∙ ap (λ z. changed_at z p c.args.x) (part_row s r k i w))
+          (λ no. ap (λ z. take n z) (c.change.ensures.refused no) ∙ part_row s r k i w));
     }

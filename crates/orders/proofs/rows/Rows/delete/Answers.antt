@@ -6,6 +6,6 @@ pub returns : goal.returns
 returns c =
     let s = c.args.self.now in
     record {
-      fits = c.cut.ensures.fits ∙ delete-taken s.depth _ c.args.position (row_room s c.args.r c.requires.0 c.requires.1);
+      fits = c.cut.ensures.fits ∙ delete-taken s.depth _ c.args.position (row_room s c.args.r c.requires);
       puts = c.cut.ensures.puts;
     }
