@@ -8,22 +8,13 @@ use destinations::feeds::{Feed, feed_of, nearly_all};
 
 const ASK: &str = "the capture does not make it plain what to rebuild; give the option named above";
 
-fn feed_word(feed: Feed) -> &'static str {
-    match feed {
-        Feed::Snapshot => "snapshot loop",
-        Feed::Incremental => "incremental",
-        Feed::Statistics => "statistics alone",
-        Feed::Nothing => "no message of the sheet",
-    }
-}
-
 // Lists the destinations of a capture on standard error.
 pub fn list_destinations(rt: &HostRuntime, finding: &Finding) -> anyhow::Result<()> {
     eprintln!(rt; "the capture has packets to:")?;
     for d in finding.table.destinations.as_slice() {
         let to = d.to;
         let packets = d.packets;
-        let word = feed_word(feed_of(&d.counts));
+        let word = feed_of(&d.counts);
         eprintln!(rt; "  {to} {word}, packets that keep the rules: {packets}")?;
     }
     Ok(())

@@ -2,6 +2,7 @@ use crate::state::State;
 use crate::told::Told;
 use capture::endpoint::Endpoint;
 use destinations::received::Received;
+use destinations::refusals::First;
 use refusal::Reason;
 use shares::noting::hundredths;
 
@@ -14,18 +15,16 @@ fn write_received(
 ) -> anyhow::Result<()> {
     let taken = received.taken;
     let repeated = received.repeated;
-    let late = received.reason(Reason::Late.number()).count;
+    let late = received.refusals.of(Reason::Late).count;
     writeln!(
         out,
         "{name} {endpoint}: {taken} taken, {repeated} repeated, {late} late"
     )?;
     for reason in Reason::ALL {
         let number = reason.number();
-        let refused = received.reason(number);
-        if refused.count > 0 {
+        let refused = received.refusals.of(reason);
+        if let Some(First { place, index }) = refused.first {
             let count = refused.count;
-            let place = refused.place;
-            let index = refused.index;
             writeln!(
                 out,
                 "  refused {number} {reason}: {count}, first at byte {place} in record {index}"

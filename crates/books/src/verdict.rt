@@ -4,6 +4,7 @@ use crate::state::State;
 use anyhow::anyhow;
 use capture::fault::CaptureFault;
 use destinations::received::Received;
+use refusal::Reason;
 
 // Says where a capture is damaged.
 fn damage(rt: &HostRuntime, path: &str, fault: Option<CaptureFault>) -> anyhow::Result<()> {
@@ -17,18 +18,9 @@ fn damage(rt: &HostRuntime, path: &str, fault: Option<CaptureFault>) -> anyhow::
     Ok(())
 }
 
-// How many packets were refused.
-fn all_refused(received: &Received) -> u64 {
-    let mut all: u64 = 0;
-    for refused in received.reasons.iter() {
-        all = all.saturating_add(refused.count);
-    }
-    all
-}
-
 // Says of a destination to which nothing came, or whose packets were all refused, why.
 fn feed(rt: &HostRuntime, path: &str, state: &State, received: &Received) -> anyhow::Result<()> {
-    let refused = all_refused(received);
+    let refused = received.refusals.total();
     if received.taken > 0 || received.repeated > 0 {
         return Ok(());
     }
@@ -39,15 +31,15 @@ fn feed(rt: &HostRuntime, path: &str, state: &State, received: &Received) -> any
             "no packet came to one of the destinations; take it from the list above"
         ));
     }
-    if received.reason(7).count == refused {
+    if received.refusals.of(Reason::Block).count == refused {
         return Err(anyhow!(
             "every packet was refused as block: the sheet does not fit the channel"
         ));
     }
-    if received.reason(9).count == refused {
+    if received.refusals.of(Reason::Channel).count == refused {
         return Err(anyhow!("every packet was refused as channel: --channel is another one's"));
     }
-    if received.reason(10).count == refused {
+    if received.refusals.of(Reason::Version).count == refused {
         return Err(anyhow!("every packet was refused as version: --version is another one's"));
     }
     Err(anyhow!("every packet of a destination was refused, for the reasons above"))

@@ -4,7 +4,7 @@ use Rattle.capture.specs.declared.endpoint.Endpoint.{Endpoint}
 use Rattle.packet.specs.declared.fault.FrameFault.{FrameFault}
 use Rattle.message.specs.Meaning.{Msg}
 use Rattle.packet.specs.Refusals.{frame_refusal}
-use Rattle.destinations.specs.declared.counts.Refused.{Refused}
+use Rattle.destinations.specs.declared.refusals.Refused.{Refused}
 use Rattle.destinations.specs.declared.destination.Flow.{Flow}
 use Rattle.destinations.specs.declared.destination.Destination.{Destination}
 use Rattle.destinations.specs.Counting.{one_more, all_noted, refused_noted}

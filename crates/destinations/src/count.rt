@@ -1,63 +1,32 @@
-ghost use Rattle.std.specs.Prelude.{◌≡◌, ◌-◌, ◌<◌, length, replicate, slice_index, slice_set};
+ghost use Rattle.std.specs.Prelude.{◌≡◌, ◌<◌, replicate, slice_index, slice_set};
 ghost use Rattle.message.specs.Meaning.{Msg};
 ghost use Rattle.packet.specs.Refusals.{frame_refusal};
 ghost use Rattle.packet.specs.Rules.{messages_from};
 ghost use Rattle.message.specs.Views.{view};
-ghost use Rattle.destinations.specs.Counting.{kind_at, one_more, all_noted, again, never, refused_noted};
+ghost use Rattle.destinations.specs.Counting.{place_of, kind_at, one_more, all_noted, never, refused_noted, all_counted};
 
-use crate::counts::{Counts, Refused};
+use crate::counts::Counts;
+use crate::refusals::Refusals;
+use layout::kinds::Kind;
 use message::message::Message;
 use packet::checked::Walk;
 use packet::fault::FrameFault;
 use refusal::Refusal;
 
-const NEVER: Refused = Refused {
-    count: 0,
-    place: 0,
-    index: 0,
-};
-
-// The place of a message's kind among the counts.
-fn kind_of(message: &Message) -> usize
-    ensures value { result ≡ kind_at (view message.now).layout }
+// The place of a kind among the counts; `None` is the kind of a template that the sheet does not list.
+fn place_of(kind: Option<Kind>) -> usize
+    ensures value { result ≡ place_of kind }
     ensures within { result < 8 }
 {
-    match message {
-        Message::Order(_, _) => 0,
-        Message::Delete(_, _) => 1,
-        Message::Mass(_, _) => 2,
-        Message::Empty(_, _) => 3,
-        Message::Stat(_, _) => 4,
-        Message::Header(_, _) => 5,
-        Message::Entries(_, _) => 6,
-        Message::Other(_) => 7,
-    }
-}
-
-impl Refused {
-    // Nothing refused yet.
-    pub fn never() -> Refused
-        ensures { result ≡ never }
-    {
-        NEVER
-    }
-
-    // One more, at that place of that record.
-    pub fn again(self, place: usize, index: u64) -> Refused
-        ensures { result ≡ again self place index }
-    {
-        if self.count == 0 {
-            return Refused {
-                count: 1,
-                place,
-                index,
-            };
-        }
-        Refused {
-            count: self.count.saturating_add(1),
-            place: self.place,
-            index: self.index,
-        }
+    match kind {
+        Some(Kind::Order) => 0,
+        Some(Kind::Delete) => 1,
+        Some(Kind::Mass) => 2,
+        Some(Kind::Empty) => 3,
+        Some(Kind::Stat) => 4,
+        Some(Kind::Header) => 5,
+        Some(Kind::Entries) => 6,
+        None => 7,
     }
 }
 
@@ -65,64 +34,54 @@ impl Counts {
     // Nothing came yet.
     pub fn none() -> Counts
         ensures kinds { result.kinds ≡ replicate 8 0 }
-        ensures reasons { result.reasons ≡ replicate 8 never }
+        ensures reasons { result.refusals.all ≡ replicate 8 never }
     {
         Counts {
             kinds: [0; 8],
-            reasons: [NEVER; 8],
+            refusals: Refusals::none(),
         }
     }
 
     // Counts a message under its kind.
     fn message(&mut self, message: &Message)
         ensures kinds { self.new.kinds ≡ slice_set self.old.kinds (kind_at (view message.now).layout) (one_more (slice_index self.old.kinds (kind_at (view message.now).layout))) }
-        ensures reasons { self.new.reasons ≡ self.old.reasons }
+        ensures reasons { self.new.refusals ≡ self.old.refusals }
     {
-        let kind = kind_of(message);
+        let kind = place_of(message.kind());
         self.kinds[kind] = self.kinds[kind].saturating_add(1);
     }
 
     // Counts every message that a walk has still to hand out.
     pub fn messages(&mut self, mut walk: Walk)
         ensures kinds { self.new.kinds ≡ all_noted self.old.kinds (messages_from walk.entry.sheet.now 0 walk.entry.rest.now) }
-        ensures reasons { self.new.reasons ≡ self.old.reasons }
+        ensures reasons { self.new.refusals ≡ self.old.refusals }
     {
         while let Some(message) = walk.next() {
             self.message(&message);
         }
     }
 
-    // Counts a refusal under its number, in the record with that index.
+    // Counts a refusal under its reason, in the record with that index.
     pub fn refuse(&mut self, fault: FrameFault, index: u64)
         ensures kinds { self.new.kinds ≡ self.old.kinds }
-        ensures reasons { self.new.reasons ≡ refused_noted self.old.reasons (frame_refusal fault) index }
+        ensures reasons { self.new.refusals.all ≡ refused_noted self.old.refusals.all (frame_refusal fault) index }
     {
-        let Refusal {
-            reason,
-            layer: _,
-            place,
-        } = Refusal::from(fault);
-        let reason = usize::from(reason.number()) - 1;
-        self.reasons[reason] = self.reasons[reason].again(place, index);
+        self.refusals.note(Refusal::from(fault), index);
     }
-}
 
-impl Counts {
+    // How many messages of a kind came; of `None`, how many have a template that the sheet does not list.
+    pub fn of(&self, kind: Option<Kind>) -> u64
+        ensures { result ≡ slice_index self.now.kinds (place_of kind) }
+    {
+        self.kinds[place_of(kind)]
+    }
+
     // How many messages of all kinds came.
-    pub fn all_messages(&self) -> u64 {
-        let mut all: u64 = 0;
-        for count in self.kinds.iter() {
-            all = all.saturating_add(*count);
-        }
-        all
-    }
-
-    // How many datagrams were refused.
-    pub fn all_refused(&self) -> u64 {
-        let mut all: u64 = 0;
-        for refused in self.reasons.iter() {
-            all = all.saturating_add(refused.count);
-        }
-        all
+    pub fn all_messages(&self) -> u64
+        ensures { result ≡ all_counted self.now.kinds }
+    {
+        self.kinds
+            .iter()
+            .fold(0, |all: u64, count| all.saturating_add(*count))
     }
 }

@@ -1,18 +1,11 @@
 ghost use Rattle.std.specs.Prelude.{◌≡◌, length};
 
-// how often datagrams were refused for one reason, and of the first of them the place and the record, counted from 1
-#[derive(Clone, Copy)]
-pub struct Refused {
-    pub count: u64,
-    pub place: usize,
-    pub index: u64,
-}
+use crate::refusals::Refusals;
 
-// how many messages of each kind came, and how many datagrams were refused for each reason
+// how many messages of each kind came, and of none, and what datagrams were refused
 #[derive(Drop)]
 pub struct Counts {
-    pub kinds: [u64; 8],
-    pub reasons: [Refused; 8],
+    pub(crate) kinds: [u64; 8],
+    pub refusals: Refusals<8>,
     ghost eight_kinds: { length kinds ≡ 8 },
-    ghost eight_reasons: { length reasons ≡ 8 },
 }

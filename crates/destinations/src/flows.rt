@@ -1,10 +1,11 @@
-ghost use Rattle.std.specs.Prelude.{◌≡◌, ℕ, ◌<◌, ◌≤◌, true, false, [], length, replicate, OnOk, slice_index_or};
+ghost use Rattle.std.specs.Prelude.{◌≡◌, ℕ, ◌<◌, true, false, [], length, replicate, OnOk, IfSome, IsNone, slice_index_or};
 ghost use Rattle.packet.specs.Rules.{packet_check, messages};
 ghost use Rattle.destinations.specs.Counting.{never};
 ghost use Rattle.destinations.specs.Noting.{is_flow, packets_after, kinds_after, reasons_after};
 
 use crate::counts::Counts;
 use crate::destination::{Destination, Flow};
+use crate::find::find;
 use capture::endpoint::Endpoint;
 use layout::sheet::Sheet;
 use numbering::stream::Stream;
@@ -19,30 +20,11 @@ fn is_flow(flow: &Flow, channel: u8, version: u16) -> bool
     flow.channel == channel && flow.version == version
 }
 
-// The place of the flow of a channel and version, or the number of flows where there is none.
-fn find_flow(flows: &[Flow], last: usize, channel: u8, version: u16) -> usize
-    ensures within { result ≤ length flows.now }
-    ensures found { (d : Flow) → result < length flows.now → is_flow (slice_index_or flows.now result d) channel version ≡ true }
-    ensures absent { (k : ℕ) (d : Flow) → result ≡ length flows.now → k < length flows.now → is_flow (slice_index_or flows.now k d) channel version ≡ false }
-{
-    if last < flows.len() && is_flow(&flows[last], channel, version) {
-        return last;
-    }
-    let mut i = flows.len();
-    while i > 0 {
-        i -= 1;
-        if is_flow(&flows[i], channel, version) {
-            return i;
-        }
-    }
-    flows.len()
-}
-
 impl Destination {
     // An address and port where nothing came yet.
     pub fn new(heap: Global, to: Endpoint) -> Destination
         ensures place { result.to ≡ to }
-        ensures nothing { (result.packets ≡ 0) × (result.flows.items ≡ []) × (result.counts.kinds ≡ replicate 8 0) × (result.counts.reasons ≡ replicate 8 never) }
+        ensures nothing { (result.packets ≡ 0) × (result.flows.items ≡ []) × (result.counts.kinds ≡ replicate 8 0) × (result.counts.refusals.all ≡ replicate 8 never) }
     {
         Destination {
             to,
@@ -51,6 +33,18 @@ impl Destination {
             last: 0,
             counts: Counts::none(),
         }
+    }
+
+    // The place of the flow of a channel and version.
+    fn flow(&self, channel: u8, version: u16) -> Option<usize>
+        ensures found { IfSome result (λ i. (i < length self.now.flows.items) × ((d : Flow) → is_flow (slice_index_or self.now.flows.items i d) channel version ≡ true)) }
+        ensures absent { IsNone result → (k : ℕ) (d : Flow) → k < length self.now.flows.items → is_flow (slice_index_or self.now.flows.items k d) channel version ≡ false }
+    {
+        find(
+            self.flows.as_slice(),
+            self.last,
+            |flow| is_flow(flow, channel, version),
+        )
     }
 
     // Notes a packet's number under its channel and version, from the record with that index.
@@ -62,15 +56,18 @@ impl Destination {
             version,
             number,
         } = head;
-        let place = find_flow(self.flows.as_slice(), self.last, channel, version);
-        if place == self.flows.len() {
-            self.flows.push(Flow {
-                channel,
-                version,
-                first: index,
-                stream: Stream::new(heap),
-            })?;
-        }
+        let place = match self.flow(channel, version) {
+            Some(place) => place,
+            None => {
+                self.flows.push(Flow {
+                    channel,
+                    version,
+                    first: index,
+                    stream: Stream::new(heap),
+                })?;
+                self.flows.len() - 1
+            }
+        };
         self.last = place;
         self.flows[place].stream.note(number)
     }
@@ -85,7 +82,7 @@ impl Destination {
     ) -> Result<(), AllocError>
         ensures packets { OnOk result (self.new.packets ≡ packets_after (packet_check sheet.now payload.now) self.old.packets) }
         ensures kinds { OnOk result (self.new.counts.kinds ≡ kinds_after (packet_check sheet.now payload.now) self.old.counts.kinds (messages sheet.now payload.now)) }
-        ensures reasons { OnOk result (self.new.counts.reasons ≡ reasons_after (packet_check sheet.now payload.now) self.old.counts.reasons index) }
+        ensures reasons { OnOk result (self.new.counts.refusals.all ≡ reasons_after (packet_check sheet.now payload.now) self.old.counts.refusals.all index) }
     {
         match check(sheet, payload) {
             Err(fault) => self.counts.refuse(fault, index),

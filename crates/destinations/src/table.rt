@@ -1,9 +1,10 @@
-ghost use Rattle.std.specs.Prelude.{◌≡◌, ℕ, ◌<◌, ◌≤◌, true, false, length, slice_index_or};
+ghost use Rattle.std.specs.Prelude.{◌≡◌, ℕ, ◌<◌, true, false, length, IfSome, IsNone, slice_index_or};
 ghost use Rattle.destinations.specs.Noting.{is_destination};
 ghost use Rattle.capture.specs.Held.{view};
 ghost use Rattle.capture.specs.Tally.{nothing, noted};
 
 use crate::destination::Destination;
+use crate::find::find;
 use capture::endpoint::Endpoint;
 use capture::frame::{Datagram, Frame};
 use capture::tally::Tally;
@@ -25,25 +26,6 @@ fn is_destination(destination: &Destination, to: Endpoint) -> bool
     destination.to == to
 }
 
-// The place of an address and port, or the number of destinations where there is none.
-fn find_destination(destinations: &[Destination], last: usize, to: Endpoint) -> usize
-    ensures within { result ≤ length destinations.now }
-    ensures found { (d : Destination) → result < length destinations.now → is_destination (slice_index_or destinations.now result d) to ≡ true }
-    ensures absent { (k : ℕ) (d : Destination) → result ≡ length destinations.now → k < length destinations.now → is_destination (slice_index_or destinations.now k d) to ≡ false }
-{
-    if last < destinations.len() && is_destination(&destinations[last], to) {
-        return last;
-    }
-    let mut i = destinations.len();
-    while i > 0 {
-        i -= 1;
-        if is_destination(&destinations[i], to) {
-            return i;
-        }
-    }
-    destinations.len()
-}
-
 impl Table {
     // Nothing read yet.
     pub fn new(heap: Global) -> Table
@@ -57,6 +39,18 @@ impl Table {
         }
     }
 
+    // The place of an address and port.
+    fn destination(&self, to: Endpoint) -> Option<usize>
+        ensures found { IfSome result (λ i. (i < length self.now.destinations.items) × ((d : Destination) → is_destination (slice_index_or self.now.destinations.items i d) to ≡ true)) }
+        ensures absent { IsNone result → (k : ℕ) (d : Destination) → k < length self.now.destinations.items → is_destination (slice_index_or self.now.destinations.items k d) to ≡ false }
+    {
+        find(
+            self.destinations.as_slice(),
+            self.last,
+            |destination| is_destination(destination, to),
+        )
+    }
+
     // Notes a datagram under its destination.
     fn datagram(
         &mut self,
@@ -67,10 +61,13 @@ impl Table {
         ensures { self.new.tally ≡ self.old.tally }
     {
         let to = datagram.to;
-        let place = find_destination(self.destinations.as_slice(), self.last, to);
-        if place == self.destinations.len() {
-            self.destinations.push(Destination::new(heap, to))?;
-        }
+        let place = match self.destination(to) {
+            Some(place) => place,
+            None => {
+                self.destinations.push(Destination::new(heap, to))?;
+                self.destinations.len() - 1
+            }
+        };
         self.last = place;
         self.destinations[place].note(heap, sheet, datagram.payload, self.records)
     }

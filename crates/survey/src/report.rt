@@ -1,7 +1,9 @@
 use crate::sums::Sums;
 use destinations::counts::Counts;
 use destinations::destination::{Destination, Flow};
+use destinations::refusals::First;
 use destinations::table::Table;
+use layout::kinds::Kind;
 use refusal::Reason;
 
 // A figure on a line of its own.
@@ -10,25 +12,28 @@ fn figure(out: &mut String, name: &str, value: u64) -> anyhow::Result<()> {
     Ok(())
 }
 
-fn kind_name(kind: usize) -> &'static str {
-    match kind {
-        0 => "  order",
-        1 => "  delete",
-        2 => "  mass",
-        3 => "  empty",
-        4 => "  stat",
-        5 => "  header",
-        6 => "  entries",
-        _ => "  other",
-    }
-}
+// the kinds of messages as they are listed; `None` is the kind of templates that the sheet does not list
+const KINDS: [Option<Kind>; 8] = [
+    Some(Kind::Order),
+    Some(Kind::Delete),
+    Some(Kind::Mass),
+    Some(Kind::Empty),
+    Some(Kind::Stat),
+    Some(Kind::Header),
+    Some(Kind::Entries),
+    None,
+];
 
 // The messages by kind, but for the kinds that did not come.
 fn write_kinds(out: &mut String, counts: &Counts) -> anyhow::Result<()> {
     figure(out, "messages", counts.all_messages())?;
-    for (kind, count) in counts.kinds.iter().enumerate() {
-        if *count > 0 {
-            figure(out, kind_name(kind), *count)?;
+    for kind in KINDS {
+        let count = counts.of(kind);
+        if count > 0 {
+            match kind {
+                Some(kind) => writeln!(out, "    {kind:<14}{count:>12}")?,
+                None => figure(out, "  other", count)?,
+            }
         }
     }
     Ok(())
@@ -36,13 +41,12 @@ fn write_kinds(out: &mut String, counts: &Counts) -> anyhow::Result<()> {
 
 // The refused datagrams by reason, each with the first.
 fn write_reasons(out: &mut String, counts: &Counts) -> anyhow::Result<()> {
-    figure(out, "refused", counts.all_refused())?;
-    for (reason, refused) in Reason::ALL.iter().zip(counts.reasons.iter()) {
-        if refused.count > 0 {
+    figure(out, "refused", counts.refusals.total())?;
+    for reason in Reason::ALL {
+        let refused = counts.refusals.of(reason);
+        if let Some(First { place, index }) = refused.first {
             let number = reason.number();
             let count = refused.count;
-            let place = refused.place;
-            let index = refused.index;
             writeln!(
                 out,
                 "    {number} {reason:<12}{count:>12}   first at byte {place}, record {index}"
@@ -92,11 +96,11 @@ pub fn write_total(out: &mut String, table: &Table) -> anyhow::Result<()> {
     let mut packets: u64 = 0;
     let mut messages: u64 = 0;
     let mut refused: u64 = 0;
-    let mut sums = Sums::none();
+    let mut sums = Sums::default();
     for d in table.destinations.as_slice() {
         packets = packets.saturating_add(d.packets);
         messages = messages.saturating_add(d.counts.all_messages());
-        refused = refused.saturating_add(d.counts.all_refused());
+        refused = refused.saturating_add(d.counts.refusals.total());
         sums.add(d.flows.as_slice());
     }
     writeln!(out, "total")?;

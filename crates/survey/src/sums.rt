@@ -1,7 +1,7 @@
 use destinations::destination::Flow;
 
 // the figures of several flows together: the lowest and the highest number, and the sums
-#[derive(Clone, Copy)]
+#[derive(Clone, Copy, Default)]
 pub struct Sums {
     pub first: Option<u32>,
     pub last: Option<u32>,
@@ -10,39 +10,20 @@ pub struct Sums {
     pub late: u64,
 }
 
-// The lower of two numbers, of which one may be absent.
-fn lower(a: Option<u32>, b: Option<u32>) -> Option<u32> {
+// One of two numbers, of which either may be absent; `choose` says which where both are there.
+fn either<F: Fn(u32, u32) -> u32>(a: Option<u32>, b: Option<u32>, choose: F) -> Option<u32>
+    requires { F.IsAlwaysCallable choose }
+{
     match (a, b) {
-        (Some(x), Some(y)) => Some(x.min(y)),
-        (Some(x), None) => Some(x),
-        (None, y) => y,
-    }
-}
-
-// The higher of two numbers, of which one may be absent.
-fn higher(a: Option<u32>, b: Option<u32>) -> Option<u32> {
-    match (a, b) {
-        (Some(x), Some(y)) => Some(x.max(y)),
-        (Some(x), None) => Some(x),
-        (None, y) => y,
+        (Some(x), Some(y)) => Some(choose(x, y)),
+        _ => a.or(b),
     }
 }
 
 impl Sums {
-    // Of no flow.
-    pub fn none() -> Sums {
-        Sums {
-            first: None,
-            last: None,
-            missing: 0,
-            repeated: 0,
-            late: 0,
-        }
-    }
-
     // Of these flows.
     pub fn of(flows: &[Flow]) -> Sums {
-        let mut sums = Sums::none();
+        let mut sums = Sums::default();
         sums.add(flows);
         sums
     }
@@ -50,11 +31,12 @@ impl Sums {
     // Adds the figures of these flows.
     pub fn add(&mut self, flows: &[Flow]) {
         for flow in flows {
-            self.first = lower(self.first, flow.stream.first());
-            self.last = higher(self.last, flow.stream.last());
-            self.missing = self.missing.saturating_add(flow.stream.missing());
-            self.repeated = self.repeated.saturating_add(flow.stream.repeated());
-            self.late = self.late.saturating_add(flow.stream.late());
+            let stream = &flow.stream;
+            self.first = either(self.first, stream.first(), |x, y| x.min(y));
+            self.last = either(self.last, stream.last(), |x, y| x.max(y));
+            self.missing = self.missing.saturating_add(stream.missing());
+            self.repeated = self.repeated.saturating_add(stream.repeated());
+            self.late = self.late.saturating_add(stream.late());
         }
     }
 }
