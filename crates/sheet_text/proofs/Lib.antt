@@ -1,3 +1,5 @@
+pub mod Listed
+pub mod Words
 pub mod Cuts
 pub mod Rows
 pub mod Figures

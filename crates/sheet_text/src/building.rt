@@ -4,8 +4,7 @@ ghost use Rattle.sheet_text.specs.Meaning.{spare, spot_of, layout_of, template_o
 ghost use Rattle.sheet_text.specs.Adding.{takes};
 ghost use Rattle.sheet_text.specs.Kept.{Kept};
 
-use crate::follows::is_listed;
-use crate::names::same_field;
+use crate::follows::TemplateLines;
 use crate::types::{Field, FieldLine};
 use layout::kinds::{
     Actions, DeleteLayout, EmptyLayout, EntriesLayout, HeaderLayout, Kind, Layout, MassLayout,
@@ -30,85 +29,86 @@ fn spare_spot(field: Field) -> Spot
     }
 }
 
-// Where the lines put a field of a template.
-fn spot_of(lines: &[FieldLine], template: u16, field: Field) -> Spot
-    ensures { result ≡ spot_of lines.now template field }
-{
-    for x in lines {
-        if (x.template == template) & same_field(x.field, field) {
-            return x.spot;
+impl<'a> TemplateLines<'a> {
+    // Where the lines put a field of the template.
+    fn spot_of(&self, field: Field) -> Spot
+        ensures { result ≡ spot_of self.now.lines.now self.now.template field }
+    {
+        let template = self.template;
+        match self.lines.iter().find(|x| x.names(template, field)) {
+            Some(x) => x.spot,
+            None => spare_spot(field),
         }
     }
-    spare_spot(field)
-}
 
-fn order_layout(lines: &[FieldLine], template: u16) -> Layout
-    ensures { result ≡ layout_of lines.now template Kind.Order }
-{
-    Layout::Order(OrderLayout {
-        security: spot_of(lines, template, Field::Security),
-        action: spot_of(lines, template, Field::Action),
-        side: spot_of(lines, template, Field::Side),
-        position: spot_of(lines, template, Field::Position),
-        price: spot_of(lines, template, Field::Price),
-        size: spot_of(lines, template, Field::Size),
-        oid: spot_of(lines, template, Field::Oid),
-        firm: spot_of(lines, template, Field::Firm),
-    })
-}
+    fn order_layout(&self) -> Layout
+        ensures { result ≡ layout_of self.now.lines.now self.now.template Kind.Order }
+    {
+        Layout::Order(OrderLayout {
+            security: self.spot_of(Field::Security),
+            action: self.spot_of(Field::Action),
+            side: self.spot_of(Field::Side),
+            position: self.spot_of(Field::Position),
+            price: self.spot_of(Field::Price),
+            size: self.spot_of(Field::Size),
+            oid: self.spot_of(Field::Oid),
+            firm: self.spot_of(Field::Firm),
+        })
+    }
 
-fn entries_layout(lines: &[FieldLine], template: u16) -> Layout
-    ensures { result ≡ layout_of lines.now template Kind.Entries }
-{
-    Layout::Entries(EntriesLayout {
-        security: spot_of(lines, template, Field::Security),
-        count: spot_of(lines, template, Field::Group).width,
-        side: spot_of(lines, template, Field::Side),
-        position: spot_of(lines, template, Field::Position),
-        price: spot_of(lines, template, Field::Price),
-        size: spot_of(lines, template, Field::Size),
-        oid: spot_of(lines, template, Field::Oid),
-        firm: spot_of(lines, template, Field::Firm),
-    })
-}
+    fn entries_layout(&self) -> Layout
+        ensures { result ≡ layout_of self.now.lines.now self.now.template Kind.Entries }
+    {
+        Layout::Entries(EntriesLayout {
+            security: self.spot_of(Field::Security),
+            count: self.spot_of(Field::Group).width,
+            side: self.spot_of(Field::Side),
+            position: self.spot_of(Field::Position),
+            price: self.spot_of(Field::Price),
+            size: self.spot_of(Field::Size),
+            oid: self.spot_of(Field::Oid),
+            firm: self.spot_of(Field::Firm),
+        })
+    }
 
-fn header_layout(lines: &[FieldLine], template: u16) -> Layout
-    ensures { result ≡ layout_of lines.now template Kind.Header }
-{
-    Layout::Header(HeaderLayout {
-        security: spot_of(lines, template, Field::Security),
-        last: spot_of(lines, template, Field::Last),
-        bids: spot_of(lines, template, Field::Bids),
-        offers: spot_of(lines, template, Field::Offers),
-        stats: spot_of(lines, template, Field::Stats),
-    })
-}
+    fn header_layout(&self) -> Layout
+        ensures { result ≡ layout_of self.now.lines.now self.now.template Kind.Header }
+    {
+        Layout::Header(HeaderLayout {
+            security: self.spot_of(Field::Security),
+            last: self.spot_of(Field::Last),
+            bids: self.spot_of(Field::Bids),
+            offers: self.spot_of(Field::Offers),
+            stats: self.spot_of(Field::Stats),
+        })
+    }
 
-// The layout of a template by its lines.
-fn layout_of(lines: &[FieldLine], template: u16, kind: Kind) -> Layout
-    ensures { result ≡ layout_of lines.now template kind }
-{
-    let security = spot_of(lines, template, Field::Security);
-    match kind {
-        Kind::Order => order_layout(lines, template),
-        Kind::Delete => Layout::Delete(DeleteLayout {
-            security,
-            side: spot_of(lines, template, Field::Side),
-            position: spot_of(lines, template, Field::Position),
-        }),
-        Kind::Mass => Layout::Mass(MassLayout {
-            security,
-            action: spot_of(lines, template, Field::Action),
-            side: spot_of(lines, template, Field::Side),
-            position: spot_of(lines, template, Field::Position),
-        }),
-        Kind::Empty => Layout::Empty(EmptyLayout { security }),
-        Kind::Stat => Layout::Stat(StatLayout {
-            security,
-            value: spot_of(lines, template, Field::Value),
-        }),
-        Kind::Header => header_layout(lines, template),
-        Kind::Entries => entries_layout(lines, template),
+    // The layout of the template by its lines.
+    fn layout_of(&self, kind: Kind) -> Layout
+        ensures { result ≡ layout_of self.now.lines.now self.now.template kind }
+    {
+        let security = self.spot_of(Field::Security);
+        match kind {
+            Kind::Order => self.order_layout(),
+            Kind::Delete => Layout::Delete(DeleteLayout {
+                security,
+                side: self.spot_of(Field::Side),
+                position: self.spot_of(Field::Position),
+            }),
+            Kind::Mass => Layout::Mass(MassLayout {
+                security,
+                action: self.spot_of(Field::Action),
+                side: self.spot_of(Field::Side),
+                position: self.spot_of(Field::Position),
+            }),
+            Kind::Empty => Layout::Empty(EmptyLayout { security }),
+            Kind::Stat => Layout::Stat(StatLayout {
+                security,
+                value: self.spot_of(Field::Value),
+            }),
+            Kind::Header => self.header_layout(),
+            Kind::Entries => self.entries_layout(),
+        }
     }
 }
 
@@ -118,7 +118,9 @@ fn add_template(sheet: &mut Sheet, lines: &[FieldLine], x: &FieldLine) -> bool
     ensures actions { sheet.new.actions ≡ sheet.old.actions }
     ensures templates { listing sheet.new.templates.items ≡ (if result then listing sheet.old.templates.items ++ template_of lines.now x.now ∷ [] else listing sheet.old.templates.items) }
 {
-    match Template::new(x.template, layout_of(lines, x.template, x.kind)) {
+    let template = x.template;
+    let layout = TemplateLines { lines, template }.layout_of(x.kind);
+    match Template::new(template, layout) {
         Some(t) => sheet.add(t),
         None => false,
     }
@@ -133,7 +135,11 @@ pub(crate) fn build(sheet: &mut Sheet, actions: Actions, lines: &[FieldLine])
 {
     let _ = sheet.restart(actions);
     for (i, x) in lines.iter().enumerate() {
-        if !is_listed(&lines[0..i], x.template) {
+        let before = TemplateLines {
+            lines: &lines[..i],
+            template: x.template,
+        };
+        if !before.is_listed() {
             let _ = add_template(sheet, lines, x);
         }
     }

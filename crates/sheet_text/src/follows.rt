@@ -1,82 +1,90 @@
-ghost use Rattle.std.specs.Prelude.{◌≡◌, [], length};
-ghost use Rattle.sheet_text.specs.Names.{fields_of};
+ghost use Rattle.std.specs.Prelude.{◌≡◌, ◌==◌, ◌&&◌, [], length};
+ghost use Rattle.sheet_text.specs.Names.{same_field, same_kind};
 ghost use Rattle.sheet_text.specs.Follows.{listed, named, missing, firsts, stat_lines, last_of, lacks, complete, goes_on, room_for, may_follow};
 
-use crate::names::{fields_of, same_field, same_kind};
+use crate::names::fields_of;
 use crate::types::{Field, FieldLine};
 use layout::kinds::Kind;
 
-// Whether a line is of that template.
-pub(crate) fn is_listed(lines: &[FieldLine], template: u16) -> bool
-    ensures { result ≡ listed lines.now template }
-{
-    for x in lines {
-        if x.template == template {
-            return true;
-        }
+impl FieldLine {
+    // Whether the line names that field of the template.
+    pub(crate) fn names(&self, template: u16, field: Field) -> bool
+        ensures { result ≡ (self.now.template == template && same_field self.now.field field) }
+    {
+        self.template == template && self.field == field
     }
-    false
+
+    // Whether the line is of that kind.
+    fn is_of(&self, kind: Kind) -> bool
+        ensures { result ≡ same_kind self.now.kind kind }
+    {
+        self.kind == kind
+    }
 }
 
-// Whether a line of that template names the field.
-fn is_named(lines: &[FieldLine], template: u16, field: Field) -> bool
-    ensures { result ≡ named lines.now template field }
-{
-    for x in lines {
-        if (x.template == template) & same_field(x.field, field) {
-            return true;
-        }
-    }
-    false
+// some field lines, seen from one template
+#[derive(Clone, Copy)]
+pub(crate) struct TemplateLines<'a> {
+    pub lines: &'a [FieldLine],
+    pub template: u16,
 }
 
-// How many of these fields no line of that template names.
-fn count_missing(lines: &[FieldLine], template: u16, fields: &[Field]) -> usize
-    ensures { result ≡ missing lines.now template fields.now }
-{
-    let mut n: usize = 0;
-    for f in fields {
-        if !is_named(lines, template, *f) {
-            n += 1;
-        }
+impl<'a> TemplateLines<'a> {
+    // Whether a line is of the template.
+    pub(crate) fn is_listed(&self) -> bool
+        ensures { result ≡ listed self.now.lines.now self.now.template }
+    {
+        let template = self.template;
+        self.lines.iter().any(|x| x.template == template)
     }
-    n
+
+    // Whether a line of the template names the field.
+    fn is_named(&self, field: Field) -> bool
+        ensures { result ≡ named self.now.lines.now self.now.template field }
+    {
+        let template = self.template;
+        self.lines.iter().any(|x| x.names(template, field))
+    }
+
+    // How many of these fields no line of the template names.
+    fn count_missing(&self, fields: &[Field]) -> usize
+        ensures { result ≡ missing self.now.lines.now self.now.template fields.now }
+    {
+        fields.iter().filter(|f| !self.is_named(**f)).count()
+    }
 }
 
-// How many templates these lines have.
-fn count_templates(lines: &[FieldLine]) -> usize
-    ensures { result ≡ length (firsts [] lines.now) }
+// how many templates some lines have, and how many of these are of the kind `stat`
+#[derive(Clone, Copy)]
+struct Templates {
+    all: usize,
+    stats: usize,
+}
+
+// Counts the templates of some lines.
+fn count_templates(lines: &[FieldLine]) -> Templates
+    ensures all { result.all ≡ length (firsts [] lines.now) }
+    ensures stats { result.stats ≡ stat_lines (firsts [] lines.now) }
 {
-    let mut n: usize = 0;
+    let mut all: usize = 0;
+    let mut stats: usize = 0;
     for (i, x) in lines.iter().enumerate() {
-        if !is_listed(&lines[0..i], x.template) {
-            n += 1;
+        let before = TemplateLines {
+            lines: &lines[..i],
+            template: x.template,
+        };
+        if !before.is_listed() {
+            all += 1;
+            stats += usize::from(x.is_of(Kind::Stat));
         }
     }
-    n
-}
-
-// How many templates of these lines are of the kind `stat`.
-fn count_stats(lines: &[FieldLine]) -> usize
-    ensures { result ≡ stat_lines (firsts [] lines.now) }
-{
-    let mut n: usize = 0;
-    for (i, x) in lines.iter().enumerate() {
-        if same_kind(x.kind, Kind::Stat) & !is_listed(&lines[0..i], x.template) {
-            n += 1;
-        }
-    }
-    n
+    Templates { all, stats }
 }
 
 fn last_of(lines: &[FieldLine]) -> Option<FieldLine>
     ensures { result ≡ last_of lines.now }
 {
-    let mut last = None;
-    for x in lines {
-        last = Some(*x);
-    }
-    last
+    lines.last().copied()
 }
 
 // Whether the template of the last line has all its fields.
@@ -84,7 +92,10 @@ pub(crate) fn is_complete(lines: &[FieldLine]) -> bool
     ensures { result ≡ complete lines.now }
 {
     match last_of(lines) {
-        Some(x) => count_missing(lines, x.template, fields_of(x.kind)) == 0,
+        Some(x) => {
+            let template = x.template;
+            TemplateLines { lines, template }.count_missing(fields_of(x.kind)) == 0
+        }
         None => true,
     }
 }
@@ -93,7 +104,7 @@ fn goes_on(lines: &[FieldLine], x: &FieldLine) -> bool
     ensures { result ≡ goes_on (last_of lines.now) x.now }
 {
     match last_of(lines) {
-        Some(y) => (y.template == x.template) & same_kind(y.kind, x.kind),
+        Some(y) => y.template == x.template && y.is_of(x.kind),
         None => false,
     }
 }
@@ -101,16 +112,19 @@ fn goes_on(lines: &[FieldLine], x: &FieldLine) -> bool
 fn has_room(lines: &[FieldLine], kind: Kind) -> bool
     ensures { result ≡ room_for lines.now kind }
 {
-    (count_templates(lines) < 40) & (!same_kind(kind, Kind::Stat) | (count_stats(lines) < 16))
+    let templates = count_templates(lines);
+    templates.all < 40 && (kind != Kind::Stat || templates.stats < 16)
 }
 
 // Whether a line may stand behind those before it.
 pub(crate) fn may_follow(lines: &[FieldLine], x: &FieldLine) -> bool
     ensures { result ≡ may_follow lines.now x.now }
 {
-    if is_listed(lines, x.template) {
-        goes_on(lines, x) & !is_named(lines, x.template, x.field)
+    let template = x.template;
+    let before = TemplateLines { lines, template };
+    if before.is_listed() {
+        goes_on(lines, x) && !before.is_named(x.field)
     } else {
-        is_complete(lines) & has_room(lines, x.kind)
+        is_complete(lines) && has_room(lines, x.kind)
     }
 }

@@ -1,24 +1,13 @@
 ghost use Rattle.std.specs.Prelude.{◌≡◌, true, IfSome};
-ghost use Rattle.sheet_text.specs.Names.{fields_of, among};
+ghost use Rattle.sheet_text.specs.Names.{fields_of};
 ghost use Rattle.sheet_text.specs.FieldLines.{allowed, sound, if_sound, field_line};
 
-use crate::names::{field, fields_of, kind, same_field, width};
+use crate::names::{field, fields_of, kind, width};
 use crate::text::{cut, number};
 use crate::types::{Field, FieldLine};
 use layout::kinds::Spot;
 use layout::making::{is_just, is_up_to};
 use layout::wire::bytes_of;
-
-fn is_among(fields: &[Field], field: Field) -> bool
-    ensures { result ≡ among fields.now field }
-{
-    for f in fields {
-        if same_field(*f, field) {
-            return true;
-        }
-    }
-    false
-}
 
 // Whether a field may lie there.
 fn is_allowed(field: Field, s: &Spot) -> bool
@@ -46,7 +35,7 @@ fn if_sound(x: FieldLine) -> Option<FieldLine>
     ensures value { result ≡ if_sound x }
     ensures sound { IfSome result (λ y. sound y ≡ true) }
 {
-    if is_among(fields_of(x.kind), x.field) & is_allowed(x.field, &x.spot) {
+    if fields_of(x.kind).contains(&x.field) && is_allowed(x.field, &x.spot) {
         Some(x)
     } else {
         None

@@ -4,7 +4,6 @@ ghost use Rattle.sheet_text.specs.Text.{rows, number_of};
 ghost use Rattle.sheet_text.specs.Sheets.{if_different, actions_of, first_wrong};
 ghost use Rattle.sheet_text.specs.Opening.{starts_with, actions_first, opening_rows};
 
-use crate::names::same;
 use crate::text::{cut, next_line, number};
 use crate::types::SheetFault;
 use layout::kinds::Actions;
@@ -21,7 +20,7 @@ fn if_different(a: Actions) -> Option<Actions>
     ensures value { result ≡ if_different a }
     ensures different { IfSome result (λ x. different x ≡ true) }
 {
-    if are_different(a) { Some(a) } else { None }
+    are_different(a).then_some(a)
 }
 
 // Reads the line of the four actions' numbers.
@@ -45,7 +44,7 @@ fn behind<'a>(text: &'a [u8], want: &[u8]) -> Option<&'a [u8]>
     ensures { MatchOption result (starts_with want.now (rows text.now) ≡ false) (λ p. rows text.now ≡ Some want.now ∷ rows p.now) }
 {
     let (line, rest) = next_line(text)?;
-    if same(line, want) { Some(rest) } else { None }
+    if line == want { Some(rest) } else { None }
 }
 
 // The actions of the first line, and what is behind it.

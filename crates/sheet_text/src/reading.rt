@@ -10,6 +10,7 @@ use crate::text::next_line;
 use crate::types::{FieldLine, SheetFault};
 
 // Reads the field lines of a text from its fifth line on, to the front of `lines`; gives their number.
+// kept: a sheet is filled without the heap, so the lines stand at the front of an array of the caller's, with their number
 pub(crate) fn read_fields(text: &[u8], lines: &mut [FieldLine]) -> Result<usize, SheetFault>
     requires { length lines.old ≡ 320 }
     ensures answer { MatchResult result (λ _. ((line : List ℕ) → first_wrong (opening_rows line) (rows text.now) ≡ None)) (λ e. ((line : List ℕ) → first_wrong (opening_rows line) (rows text.now) ≡ Some e.line)) }

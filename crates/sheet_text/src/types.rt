@@ -7,7 +7,7 @@ pub struct SheetFault {
 }
 
 // a field's name
-#[derive(Clone, Copy)]
+#[derive(Clone, Copy, PartialEq, Eq)]
 pub enum Field {
     Security,
     Action,

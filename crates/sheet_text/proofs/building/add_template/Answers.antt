@@ -9,7 +9,7 @@ returns-in-Some c =
     let s = c.args.sheet.now in
     let e = template_of c.args.lines.now c.args.x.now in
     let made = c.in-Some.ensures.value in
-    let is = made.1 ∙ c.layout_of.ensures in
+    let is = made.1 ∙ c.layout_of-layout.ensures in
     record {
       taken = added s.actions (vec_items s.templates) c.in-Some.t e c.add.result s.lawful made.0 is c.add.ensures.lawful;
       actions = c.add.ensures.actions;
@@ -19,7 +19,7 @@ returns-in-Some c =
 pub returns-in-None : goal.returns-in-None
 returns-in-None c =
     record {
-      taken = refused (vec_items c.args.sheet.now.templates) (template_of c.args.lines.now c.args.x.now) (ap lawful_layout (sym c.layout_of.ensures) ∙ sym c.in-None.ensures.lawful);
+      taken = refused (vec_items c.args.sheet.now.templates) (template_of c.args.lines.now c.args.x.now) (ap lawful_layout (sym c.layout_of-layout.ensures) ∙ sym c.in-None.ensures.lawful);
       actions = refl;
       templates = refl;
     }

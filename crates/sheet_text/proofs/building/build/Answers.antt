@@ -1,5 +1,4 @@
 use Rattle.std.proofs.Common.{◌≡◌, true, cond, [], map, get_or, take, vec_items, sym, refl, ap, ◌∙◌, arith}
-use native.Mathlib.Nat.{sub-zero}
 use Rattle.std.proofs.lemmas.List.{take_all}
 use Rattle.std.proofs.lemmas.Bool.{cond-true}
 use Rattle.sheet_text.specs.Follows.{listed, firsts}
@@ -19,7 +18,7 @@ loop-i-preserved c =
     let xs = c.args.lines.now in
     let i = c.loop-i.i in
     let inv = c.loop-i.invariant in
-    let was : c.is_listed.result ≡ listed (take i xs) (get_or xs i blank).template = c.is_listed.ensures ∙ ap (λ k. listed (take k xs) (get_or xs i blank).template) (sub-zero i) in
+    let was : c.is_listed.result ≡ listed (take i xs) (get_or xs i blank).template = c.is_listed.ensures in
     elim c.if-not-is_listed.branch [
       | then-not-is_listed w ↦
           (let new = sym was ∙ w.if-not-is_listed.true in

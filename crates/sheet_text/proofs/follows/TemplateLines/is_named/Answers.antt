@@ -1,0 +1,12 @@
+use Rattle.std.proofs.Common.{◌∙◌, ◌&&◌, eqb, rules, tests}
+use Rattle.std.proofs.lemmas.Iterator.{YieldsList-from_slice}
+use Rattle.std.proofs.lemmas.Iterator.Search.{any_from_yields_List}
+use Rattle.sheet_text.specs.declared.types.FieldLine.{FieldLine}
+use Rattle.sheet_text.specs.Names.{same_field}
+use Rattle.sheet_text.proofs.Listed.{any-named}
+use Rattle.sheet_text.proofs.follows.TemplateLines.is_named.Goals as goal
+
+pub returns : goal.returns
+returns c =
+    any_from_yields_List (λ (x : FieldLine). eqb x.template c.args.self.now.template && same_field x.field c.args.field) _ _ c.any.result c.any.ensures.ran (YieldsList-from_slice c.args.self.now.lines.now cc) (λ x b q k. search (rules, tests))
+    ∙ any-named c.args.self.now.template c.args.field c.args.self.now.lines.now
