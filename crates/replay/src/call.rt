@@ -1,4 +1,7 @@
-use recovery::answers::Standing;
+ghost use Rattle.std.specs.Prelude.{◌≡◌};
+ghost use Rattle.replay.specs.Replies.{of_incremental, of_snapshot, of_standing};
+
+use recovery::answers::{Incremental, Snapshot, Standing};
 use recovery::fault::StreamFault;
 
 // a call of the receiver, with the bytes that it brings
@@ -21,4 +24,39 @@ pub enum Answer {
     Left,
     Standing(Standing),
     Refused(StreamFault),
+}
+
+impl From<Result<Incremental, StreamFault>> for Answer {
+    ghost from_gives = { λ r a. a ≡ of_incremental r };
+
+    fn from(told: Result<Incremental, StreamFault>) -> Answer {
+        match told {
+            Ok(Incremental::Taken) => Answer::Taken,
+            Ok(Incremental::Repeat) => Answer::Repeat,
+            Err(fault) => Answer::Refused(fault),
+        }
+    }
+}
+
+impl From<Result<Snapshot, StreamFault>> for Answer {
+    ghost from_gives = { λ r a. a ≡ of_snapshot r };
+
+    fn from(told: Result<Snapshot, StreamFault>) -> Answer {
+        match told {
+            Ok(Snapshot::Taken(adoptions)) => Answer::Adopted(adoptions),
+            Ok(Snapshot::Repeat) => Answer::Repeat,
+            Err(fault) => Answer::Refused(fault),
+        }
+    }
+}
+
+impl From<Result<Standing, StreamFault>> for Answer {
+    ghost from_gives = { λ r a. a ≡ of_standing r };
+
+    fn from(told: Result<Standing, StreamFault>) -> Answer {
+        match told {
+            Ok(standing) => Answer::Standing(standing),
+            Err(fault) => Answer::Refused(fault),
+        }
+    }
 }

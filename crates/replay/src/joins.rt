@@ -4,10 +4,10 @@ ghost use Rattle.recovery.specs.Updates.{when_ok};
 ghost use Rattle.receiver.specs.Standings.{opening_of, plain_of};
 ghost use Rattle.receiver.specs.Joins.{joining, leaving};
 ghost use Rattle.replay.specs.declared.call.Answer.TheVariants as answers;
-ghost use Rattle.replay.specs.Tied.{tied};
 ghost use Rattle.replay.specs.Replies.{of_check};
 
 use crate::call::Answer;
+use crate::desk::Desk;
 use receiver::join::Join;
 use receiver::receiver::Receiver;
 use recovery::fault::StreamFault;
@@ -35,37 +35,35 @@ fn give_back(receiver: &mut Receiver, join: Join)
     }
 }
 
-// Asks the receiver for a join, and keeps it.
-pub(crate) fn enter(receiver: &mut Receiver, held: &mut Option<Join>) -> Answer
-    requires { tied receiver.old.plain.joined receiver.old.sub.own held.old ≡ true }
-    ensures answer { result ≡ of_check answers.Joined (join_check (plain_of receiver.old.sub.sheet receiver.old.plain [])) }
-    ensures after { receiver.new.plain ≡ when_ok (join_check (plain_of receiver.old.sub.sheet receiver.old.plain [])) (joining receiver.old.plain) receiver.old.plain }
-    ensures opening { receiver.new.sub ≡ receiver.old.sub }
-    ensures keeps { tied receiver.new.plain.joined receiver.new.sub.own held.new ≡ true }
-{
-    match receiver.join() {
-        Ok(join) => {
-            keep(held, join);
-            Answer::Joined
+impl Desk {
+    // Asks the receiver for a join, and keeps it.
+    pub(crate) fn enter(&mut self) -> Answer
+        ensures answer { result ≡ of_check answers.Joined (join_check (plain_of self.old.receiver.sub.sheet self.old.receiver.plain [])) }
+        ensures after { self.new.receiver.plain ≡ when_ok (join_check (plain_of self.old.receiver.sub.sheet self.old.receiver.plain [])) (joining self.old.receiver.plain) self.old.receiver.plain }
+        ensures opening { self.new.receiver.sub ≡ self.old.receiver.sub }
+    {
+        match self.receiver.join() {
+            Ok(join) => {
+                keep(&mut self.held, join);
+                Answer::Joined
+            }
+            Err(fault) => Answer::Refused(fault),
         }
-        Err(fault) => Answer::Refused(fault),
     }
-}
 
-// Gives the join that is held back to the receiver; with none held the call is refused.
-pub(crate) fn part(receiver: &mut Receiver, held: &mut Option<Join>) -> Answer
-    requires { tied receiver.old.plain.joined receiver.old.sub.own held.old ≡ true }
-    ensures answer { result ≡ of_check answers.Left (present_join (opening_of receiver.old.sub) (plain_of receiver.old.sub.sheet receiver.old.plain []) receiver.old.sub.own) }
-    ensures after { receiver.new.plain ≡ when_ok (present_join (opening_of receiver.old.sub) (plain_of receiver.old.sub.sheet receiver.old.plain []) receiver.old.sub.own) (leaving receiver.old.plain) receiver.old.plain }
-    ensures opening { receiver.new.sub ≡ receiver.old.sub }
-    ensures keeps { tied receiver.new.plain.joined receiver.new.sub.own held.new ≡ true }
-    ensures none { held.new ≡ None }
-{
-    match held.take() {
-        Some(join) => {
-            give_back(receiver, join);
-            Answer::Left
+    // Gives the join that is held back to the receiver; with none held the call is refused.
+    pub(crate) fn part(&mut self) -> Answer
+        ensures answer { result ≡ of_check answers.Left (present_join (opening_of self.old.receiver.sub) (plain_of self.old.receiver.sub.sheet self.old.receiver.plain []) self.old.receiver.sub.own) }
+        ensures after { self.new.receiver.plain ≡ when_ok (present_join (opening_of self.old.receiver.sub) (plain_of self.old.receiver.sub.sheet self.old.receiver.plain []) self.old.receiver.sub.own) (leaving self.old.receiver.plain) self.old.receiver.plain }
+        ensures opening { self.new.receiver.sub ≡ self.old.receiver.sub }
+        ensures none { self.new.held ≡ None }
+    {
+        match self.held.take() {
+            Some(join) => {
+                give_back(&mut self.receiver, join);
+                Answer::Left
+            }
+            None => Answer::Refused(StreamFault::Join),
         }
-        None => Answer::Refused(StreamFault::Join),
     }
 }

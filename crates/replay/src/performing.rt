@@ -6,83 +6,42 @@ ghost use Rattle.recovery.specs.Calls.{step};
 ghost use Rattle.recovery.specs.Present.{Guaranteed};
 ghost use Rattle.receiver.specs.Standings.{opening_of, plain_of, state_in};
 ghost use Rattle.receiver.specs.Joins.{leaving, slot_answer, standing_of};
-ghost use Rattle.replay.specs.Tied.{tied};
 ghost use Rattle.replay.specs.Requests.{request, shelf_then};
 ghost use Rattle.replay.specs.Replies.{of_incremental, of_snapshot, of_standing, reply};
 
 use crate::call::{Answer, Call};
 use crate::desk::Desk;
-use crate::joins::{enter, part};
-use receiver::join::Join;
 use receiver::receiver::Receiver;
-use recovery::answers::{Incremental, Snapshot, Standing};
+use recovery::answers::Standing;
 use recovery::fault::StreamFault;
 use recovery::guarantee::recovery_stands;
 use store::store::Store;
 
-fn incremental_answer(r: Result<Incremental, StreamFault>) -> Answer
-    ensures { result ≡ of_incremental r }
-{
-    match r {
-        Ok(Incremental::Taken) => Answer::Taken,
-        Ok(Incremental::Repeat) => Answer::Repeat,
-        Err(fault) => Answer::Refused(fault),
-    }
-}
-
-fn snapshot_answer(r: Result<Snapshot, StreamFault>) -> Answer
-    ensures { result ≡ of_snapshot r }
-{
-    match r {
-        Ok(Snapshot::Taken(adoptions)) => Answer::Adopted(adoptions),
-        Ok(Snapshot::Repeat) => Answer::Repeat,
-        Err(fault) => Answer::Refused(fault),
-    }
-}
-
-fn standing_answer(r: Result<Standing, StreamFault>) -> Answer
-    ensures { result ≡ of_standing r }
-{
-    match r {
-        Ok(standing) => Answer::Standing(standing),
-        Err(fault) => Answer::Refused(fault),
-    }
-}
-
-// Brings an incremental packet to the receiver.
-fn take<S: Store>(receiver: &mut Receiver, store: &mut S, shelf: &mut [u8], bytes: &[u8]) -> Answer
-    ensures answer { result ≡ of_incremental (incremental_answer (opening_of receiver.old.sub) (state_in (S.kind (S.setup store.old)) receiver.old.sub receiver.old.plain (S.model store.old) shelf.old).plain (length shelf.old) bytes.now) }
-    ensures shelf { shelf.new ≡ shelf_after (opening_of receiver.old.sub) (state_in (S.kind (S.setup store.old)) receiver.old.sub receiver.old.plain (S.model store.old) shelf.old).plain bytes.now shelf.old }
-    ensures state { state_in (S.kind (S.setup store.old)) receiver.old.sub receiver.new.plain (S.model store.new) shelf.new ≡ incremental_step (S.kind (S.setup store.old)) (opening_of receiver.old.sub) (length shelf.old) bytes.now (state_in (S.kind (S.setup store.old)) receiver.old.sub receiver.old.plain (S.model store.old) shelf.old) }
-    ensures opening { receiver.new.sub ≡ receiver.old.sub }
-    ensures joined { receiver.new.plain.joined ≡ receiver.old.plain.joined }
-    ensures stays { S.setup store.new ≡ S.setup store.old }
-{
-    incremental_answer(receiver.incremental(store, shelf, bytes))
-}
-
-// Brings a snapshot packet to the receiver under the join that is held; with none held it is refused.
-fn follow<S: Store>(
-    receiver: &mut Receiver,
-    held: &Option<Join>,
-    store: &mut S,
-    shelf: &[u8],
-    bytes: &[u8],
-) -> Answer
-    requires { tied receiver.old.plain.joined receiver.old.sub.own held.now ≡ true }
-    ensures answer { result ≡ of_snapshot (snapshot_answer (S.kind (S.setup store.old)) (opening_of receiver.old.sub) receiver.old.sub.own (length shelf.now) bytes.now (state_in (S.kind (S.setup store.old)) receiver.old.sub receiver.old.plain (S.model store.old) shelf.now)) }
-    ensures state { state_in (S.kind (S.setup store.old)) receiver.old.sub receiver.new.plain (S.model store.new) shelf.now ≡ snapshot_step (S.kind (S.setup store.old)) (opening_of receiver.old.sub) receiver.old.sub.own (length shelf.now) bytes.now (state_in (S.kind (S.setup store.old)) receiver.old.sub receiver.old.plain (S.model store.old) shelf.now) }
-    ensures opening { receiver.new.sub ≡ receiver.old.sub }
-    ensures joined { receiver.new.plain.joined ≡ receiver.old.plain.joined }
-    ensures stays { S.setup store.new ≡ S.setup store.old }
-{
-    match held {
-        Some(join) => snapshot_answer(receiver.snapshot(store, shelf, join, bytes)),
-        None => Answer::Refused(StreamFault::Join),
-    }
-}
-
 impl Desk {
+    // Brings an incremental packet to the receiver.
+    fn take<S: Store>(&mut self, store: &mut S, shelf: &mut [u8], bytes: &[u8]) -> Answer
+        ensures answer { result ≡ of_incremental (incremental_answer (opening_of self.old.receiver.sub) (state_in (S.kind (S.setup store.old)) self.old.receiver.sub self.old.receiver.plain (S.model store.old) shelf.old).plain (length shelf.old) bytes.now) }
+        ensures shelf { shelf.new ≡ shelf_after (opening_of self.old.receiver.sub) (state_in (S.kind (S.setup store.old)) self.old.receiver.sub self.old.receiver.plain (S.model store.old) shelf.old).plain bytes.now shelf.old }
+        ensures state { state_in (S.kind (S.setup store.old)) self.old.receiver.sub self.new.receiver.plain (S.model store.new) shelf.new ≡ incremental_step (S.kind (S.setup store.old)) (opening_of self.old.receiver.sub) (length shelf.old) bytes.now (state_in (S.kind (S.setup store.old)) self.old.receiver.sub self.old.receiver.plain (S.model store.old) shelf.old) }
+        ensures opening { self.new.receiver.sub ≡ self.old.receiver.sub }
+        ensures stays { S.setup store.new ≡ S.setup store.old }
+    {
+        Answer::from(self.receiver.incremental(store, shelf, bytes))
+    }
+
+    // Brings a snapshot packet to the receiver under the join that is held; with none held it is refused.
+    fn follow<S: Store>(&mut self, store: &mut S, shelf: &[u8], bytes: &[u8]) -> Answer
+        ensures answer { result ≡ of_snapshot (snapshot_answer (S.kind (S.setup store.old)) (opening_of self.old.receiver.sub) self.old.receiver.sub.own (length shelf.now) bytes.now (state_in (S.kind (S.setup store.old)) self.old.receiver.sub self.old.receiver.plain (S.model store.old) shelf.now)) }
+        ensures state { state_in (S.kind (S.setup store.old)) self.old.receiver.sub self.new.receiver.plain (S.model store.new) shelf.now ≡ snapshot_step (S.kind (S.setup store.old)) (opening_of self.old.receiver.sub) self.old.receiver.sub.own (length shelf.now) bytes.now (state_in (S.kind (S.setup store.old)) self.old.receiver.sub self.old.receiver.plain (S.model store.old) shelf.now) }
+        ensures opening { self.new.receiver.sub ≡ self.old.receiver.sub }
+        ensures stays { S.setup store.new ≡ S.setup store.old }
+    {
+        match &self.held {
+            Some(join) => Answer::from(self.receiver.snapshot(store, shelf, join, bytes)),
+            None => Answer::Refused(StreamFault::Join),
+        }
+    }
+
     // Performs one call. What it answers and leaves is the machine's; and by the recovery guarantee every book that the receiver
     // now shows is the publisher's, the same at every receiver with equal reach, and current once a snapshot has been adopted and
     // no packet since is missing.
@@ -96,11 +55,11 @@ impl Desk {
     {
         let _ = recovery_stands::<S>();
         match call {
-            Call::Incremental(bytes) => take(&mut self.receiver, store, shelf, bytes),
-            Call::Join => enter(&mut self.receiver, &mut self.held),
-            Call::Leave => part(&mut self.receiver, &mut self.held),
-            Call::Snapshot(bytes) => follow(&mut self.receiver, &self.held, store, shelf, bytes),
-            Call::Question(instrument) => standing_answer(self.standing(instrument)),
+            Call::Incremental(bytes) => self.take(store, shelf, bytes),
+            Call::Join => self.enter(),
+            Call::Leave => self.part(),
+            Call::Snapshot(bytes) => self.follow(store, shelf, bytes),
+            Call::Question(instrument) => Answer::from(self.standing(instrument)),
         }
     }
 
@@ -133,15 +92,12 @@ impl Desk {
     }
 
     // The receiver, with a join that was still held given back.
-    pub fn close(self) -> Receiver
+    pub fn close(mut self) -> Receiver
         ensures after { result.plain ≡ (if self.receiver.plain.joined then leaving self.receiver.plain else self.receiver.plain) }
         ensures opening { result.sub ≡ self.receiver.sub }
     {
-        let Desk {
-            mut receiver,
-            mut held,
-        } = self;
-        let _ = part(&mut receiver, &mut held);
+        let _ = self.part();
+        let Desk { receiver, held } = self;
         match held {
             None => receiver,
             Some(_) => unreachable(),

@@ -19,7 +19,7 @@ returns-in-Incremental g c =
     let m = g.S.Store.model c.args.store.now in
     let room = length c.args.shelf.now in
     let s : State g.S.Store.Value g.S.Store.Owed = state_in K u p m c.args.shelf.now in
-    let t : State g.S.Store.Value g.S.Store.Owed = state_in K u c.take.new.receiver.plain (g.S.Store.model c.take.new.store) c.take.new.shelf in
+    let t : State g.S.Store.Value g.S.Store.Owed = state_in K u c.take.new.self.receiver.plain (g.S.Store.model c.take.new.store) c.take.new.shelf in
     let h = performed K (opening_of u) u.own room s t c.args.shelf.now c.take.new.shelf c.take.result c.args.call (Incremental c.in-Incremental.bytes) c.in-Incremental.is
     (c.take.ensures.answer, c.take.ensures.state, c.take.ensures.shelf) in
     record {
@@ -40,7 +40,7 @@ returns-in-Join g c =
     let m = g.S.Store.model c.args.store.now in
     let room = length c.args.shelf.now in
     let s : State g.S.Store.Value g.S.Store.Owed = state_in K u p m c.args.shelf.now in
-    let t : State g.S.Store.Value g.S.Store.Owed = state_in K u c.enter.new.receiver.plain m c.args.shelf.now in
+    let t : State g.S.Store.Value g.S.Store.Owed = state_in K u c.enter.new.self.receiver.plain m c.args.shelf.now in
     let h = performed K (opening_of u) u.own room s t c.args.shelf.now c.args.shelf.now c.enter.result c.args.call Join c.in-Join.is
     (c.enter.ensures.answer, ap (λ (x : Plain). state_in K u x m c.args.shelf.now) c.enter.ensures.after ∙ when_ok_lem (λ (x : Plain). state_in K u x m c.args.shelf.now) (join_check (plain_of u.sheet p [])) (joining p) p, refl) in
     record {
@@ -61,7 +61,7 @@ returns-in-Leave g c =
     let m = g.S.Store.model c.args.store.now in
     let room = length c.args.shelf.now in
     let s : State g.S.Store.Value g.S.Store.Owed = state_in K u p m c.args.shelf.now in
-    let t : State g.S.Store.Value g.S.Store.Owed = state_in K u c.part.new.receiver.plain m c.args.shelf.now in
+    let t : State g.S.Store.Value g.S.Store.Owed = state_in K u c.part.new.self.receiver.plain m c.args.shelf.now in
     let h = performed K (opening_of u) u.own room s t c.args.shelf.now c.args.shelf.now c.part.result c.args.call Leave c.in-Leave.is
     (c.part.ensures.answer, ap (λ (x : Plain). state_in K u x m c.args.shelf.now) c.part.ensures.after ∙ when_ok_lem (λ (x : Plain). state_in K u x m c.args.shelf.now) (present_join (opening_of u) (plain_of u.sheet p []) u.own) (leaving p) p, refl) in
     record {
@@ -82,7 +82,7 @@ returns-in-Snapshot g c =
     let m = g.S.Store.model c.args.store.now in
     let room = length c.args.shelf.now in
     let s : State g.S.Store.Value g.S.Store.Owed = state_in K u p m c.args.shelf.now in
-    let t : State g.S.Store.Value g.S.Store.Owed = state_in K u c.follow.new.receiver.plain (g.S.Store.model c.follow.new.store) c.args.shelf.now in
+    let t : State g.S.Store.Value g.S.Store.Owed = state_in K u c.follow.new.self.receiver.plain (g.S.Store.model c.follow.new.store) c.args.shelf.now in
     let h = performed K (opening_of u) u.own room s t c.args.shelf.now c.args.shelf.now c.follow.result c.args.call (Snapshot c.in-Snapshot.bytes) c.in-Snapshot.is
     (c.follow.ensures.answer, c.follow.ensures.state, refl) in
     record {
@@ -104,8 +104,8 @@ returns-in-Question g c =
     let room = length c.args.shelf.now in
     let s : State g.S.Store.Value g.S.Store.Owed = state_in K u p m c.args.shelf.now in
     let t : State g.S.Store.Value g.S.Store.Owed = s in
-    let h = performed K (opening_of u) u.own room s t c.args.shelf.now c.args.shelf.now c.standing_answer.result c.args.call (Question c.in-Question.instrument) c.in-Question.is
-    (c.standing_answer.ensures ∙ ap of_standing c.standing.ensures, refl, refl) in
+    let h = performed K (opening_of u) u.own room s t c.args.shelf.now c.args.shelf.now c.from.result c.args.call (Question c.in-Question.instrument) c.in-Question.is
+    (c.from.ensures ∙ ap of_standing c.standing.ensures, refl, refl) in
     record {
       answer = h.0;
       state = h.1;
