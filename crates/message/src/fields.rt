@@ -26,10 +26,8 @@ pub fn root_block<'a>(part: &'a [u8]) -> Option<&'a [u8]>
 fn price(block: &[u8], spot: &Spot) -> Option<i64>
     ensures { result ≡ price_at block.now spot.now }
 {
-    match number(block, usize::from(spot.offset), Width::Eight) {
-        Some(n) => Some(n.cast_signed()),
-        None => None,
-    }
+    let n = number(block, usize::from(spot.offset), Width::Eight)?;
+    Some(n.cast_signed())
 }
 
 // A statistic's number: signed where it has eight bytes.
@@ -38,10 +36,7 @@ fn value(block: &[u8], spot: &Spot) -> Option<i64>
 {
     match spot.width {
         Width::Eight => price(block, spot),
-        Width::One | Width::Two | Width::Four => match field(block, spot) {
-            Some(n) => Some(n as i64),
-            None => None,
-        },
+        Width::One | Width::Two | Width::Four => Some(field(block, spot)? as i64),
     }
 }
 

@@ -48,18 +48,12 @@ fn group_check(
     requires { (start ≤ length m.now) × (length m.now ≤ 65535) × (at ≤ 1400) × (reach ≡ group_reach l.now) }
     ensures { result ≡ group_check (Entries l.now) m.now start at }
 {
-    let Some(size) = number(m, start, Width::Two) else {
-        return Err(FrameFault::Group(at + start));
-    };
-    let Some(count) = number(m, start + 2, l.count) else {
-        return Err(FrameFault::Group(at + start));
-    };
-    if size < u64::from(reach) {
-        return Err(FrameFault::Group(at + start));
-    }
+    let fault = FrameFault::Group(at + start);
+    let size = number(m, start, Width::Two).ok_or(fault)?;
+    let count = number(m, start + 2, l.count).ok_or(fault)?;
     let left = m.len() - start - 2 - bytes_of(l.count);
-    if size.saturating_mul(count) > left as u64 {
-        return Err(FrameFault::Group(at + start));
+    if size < u64::from(reach) || size.saturating_mul(count) > left as u64 {
+        return Err(fault);
     }
     Ok(())
 }
@@ -73,13 +67,8 @@ fn layout_check(t: &Template, m: &[u8], block: usize, at: usize) -> Result<(), F
         return Err(FrameFault::Block(at + 4));
     }
     match &t.layout {
-        Layout::Order(_) => Ok(()),
-        Layout::Delete(_) => Ok(()),
-        Layout::Mass(_) => Ok(()),
-        Layout::Empty(_) => Ok(()),
-        Layout::Stat(_) => Ok(()),
-        Layout::Header(_) => Ok(()),
         Layout::Entries(l) => group_check(l, t.entry, m, 12 + block, at),
+        _ => Ok(()),
     }
 }
 

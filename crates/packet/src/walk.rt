@@ -94,16 +94,11 @@ impl<'a, 's> Walk<'a, 's> {
     {
         let rest = self.rest;
         let sheet = self.sheet;
-        let Some(
-            MessageHead {
-                length,
-                block: _,
-                template,
-            },
-        ) = head_of(rest)
-        else {
-            return None;
-        };
+        let MessageHead {
+            length,
+            block: _,
+            template,
+        } = head_of(rest)?;
         let (part, after) = rest.split_at(length);
         self.rest = after;
         self.at += length;
