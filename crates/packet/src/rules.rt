@@ -11,12 +11,21 @@ use layout::template::Template;
 use layout::width::Width;
 use layout::wire::{bytes_of, number};
 
-// The header of the message at the front of `rest`.
-fn head_check(rest: &[u8], at: usize) -> Result<MessageHead, FrameFault>
-    requires { at ≤ 1400 }
-    ensures value { MatchResult result (λ h. (is_ok (head_check rest.now at) ≡ true) × (h ≡ message_head rest.now)) (λ e. head_check rest.now at ≡ Err e) }
-    ensures bounds { IfOk result (λ h. (12 ≤ h.length) × (h.length ≤ length rest.now) × (h.length ≤ 65535) × (h.block ≤ 65535)) }
+// some bytes of a packet, and where they start in it
+#[derive(Clone, Copy)]
+struct Part<'a> {
+    bytes: &'a [u8],
+    at: usize,
+    ghost near: { at + length bytes.now ≤ 1400 },
+}
+
+// The header of the message at the front of a part.
+fn head_check(part: &Part) -> Result<MessageHead, FrameFault>
+    ensures value { MatchResult result (λ h. (is_ok (head_check part.now.bytes.now part.now.at) ≡ true) × (h ≡ message_head part.now.bytes.now)) (λ e. head_check part.now.bytes.now part.now.at ≡ Err e) }
+    ensures bounds { IfOk result (λ h. (12 ≤ h.length) × (h.length ≤ length part.now.bytes.now) × (h.block ≤ 65535)) }
 {
+    let rest = part.bytes;
+    let at = part.at;
     let [l0, l1, e0, e1, b0, b1, t0, t1, s0, s1, _, _, ..] = rest else {
         return Err(FrameFault::Torn(at));
     };
@@ -41,14 +50,14 @@ fn head_check(rest: &[u8], at: usize) -> Result<MessageHead, FrameFault>
 fn group_check(
     l: &EntriesLayout,
     reach: u16,
-    m: &[u8],
+    message: &Part,
     start: usize,
-    at: usize,
 ) -> Result<(), FrameFault>
-    requires { (start ≤ length m.now) × (length m.now ≤ 65535) × (at ≤ 1400) × (reach ≡ group_reach l.now) }
-    ensures { result ≡ group_check (Entries l.now) m.now start at }
+    requires { (start ≤ length message.now.bytes.now) × (reach ≡ group_reach l.now) }
+    ensures { result ≡ group_check (Entries l.now) message.now.bytes.now start message.now.at }
 {
-    let fault = FrameFault::Group(at + start);
+    let m = message.bytes;
+    let fault = FrameFault::Group(message.at + start);
     let size = number(m, start, Width::Two).ok_or(fault)?;
     let count = number(m, start + 2, l.count).ok_or(fault)?;
     let left = m.len() - start - 2 - bytes_of(l.count);
@@ -59,33 +68,36 @@ fn group_check(
 }
 
 // The root block of a message of a listed template, and its group.
-fn layout_check(t: &Template, m: &[u8], block: usize, at: usize) -> Result<(), FrameFault>
-    requires { (block ≤ 65535) × (length m.now ≤ 65535) × (at ≤ 1400) }
-    ensures { result ≡ layout_check (Some t.now.layout) m.now block at }
+fn layout_check(t: &Template, message: &Part, block: usize) -> Result<(), FrameFault>
+    requires { block ≤ 65535 }
+    ensures { result ≡ layout_check (Some t.now.layout) message.now.bytes.now block message.now.at }
 {
+    let m = message.bytes;
     if m.len() < 12 + block || block < usize::from(t.root) {
-        return Err(FrameFault::Block(at + 4));
+        return Err(FrameFault::Block(message.at + 4));
     }
     match &t.layout {
-        Layout::Entries(l) => group_check(l, t.entry, m, 12 + block, at),
+        Layout::Entries(l) => group_check(l, t.entry, message, 12 + block),
         _ => Ok(()),
     }
 }
 
-// The message at the front of `rest`; its length.
-fn message_check(sheet: &Sheet, rest: &[u8], at: usize) -> Result<usize, FrameFault>
-    requires { at ≤ 1400 }
-    ensures value { result ≡ message_check sheet.now rest.now at }
-    ensures bounds { IfOk result (λ n. (12 ≤ n) × (n ≤ length rest.now)) }
+// The message at the front of a part; its length.
+fn message_check(sheet: &Sheet, part: &Part) -> Result<usize, FrameFault>
+    ensures value { result ≡ message_check sheet.now part.now.bytes.now part.now.at }
+    ensures bounds { IfOk result (λ n. (12 ≤ n) × (n ≤ length part.now.bytes.now)) }
 {
     let MessageHead {
         length,
         block,
         template,
-    } = head_check(rest, at)?;
-    let m = &rest[0..length];
+    } = head_check(part)?;
+    let message = Part {
+        bytes: &part.bytes[..length],
+        at: part.at,
+    };
     if let Some(t) = sheet.template(template) {
-        layout_check(t, m, block, at)?;
+        layout_check(t, &message, block)?;
     }
     Ok(length)
 }
@@ -109,7 +121,11 @@ fn walk_check(sheet: &Sheet, bytes: &[u8]) -> Result<(), FrameFault>
 {
     let mut at = 16;
     while at < bytes.len() {
-        at += message_check(sheet, &bytes[at..], at)?;
+        let part = Part {
+            bytes: &bytes[at..],
+            at,
+        };
+        at += message_check(sheet, &part)?;
     }
     Ok(())
 }
