@@ -1,7 +1,8 @@
 -- The lowest and the highest number of rising spans, and how many between them are lacking.
-use Rattle.std.proofs.Common.{◌≡◌, ℕ, zero, suc, ◌+◌, ◌-◌, ◌<◌, ◌≤◌, Bool, true, false, ◌&&◌, leb, List, [], ◌∷◌, length, get_or, Some, sym, refl, ◌∙◌, subst, ⊎_elim, arith}
+use Rattle.std.proofs.Common.{◌≡◌, ℕ, zero, suc, ◌+◌, ◌-◌, ◌<◌, ◌≤◌, Bool, true, false, ◌&&◌, leb, List, [], ◌∷◌, length, get_or, Some, None, Option, Bor, sym, refl, ◌∙◌, subst, ⊎_elim, arith}
 use Rattle.std.proofs.lemmas.Bool.Decides.{nat_tests}
 use Rattle.std.proofs.lemmas.Bool.{cases_lt, both_ways, or_left, or_right, or_cases, and_parts, leb-true}
+use Rattle.std.specs.Option.{IfSome, MatchOption, option_map}
 use Rattle.numbering.specs.declared.span.Span.{Span}
 use Rattle.numbering.specs.Spans.{inside, held, Rises}
 use Rattle.numbering.specs.Counting.{count}
@@ -62,3 +63,16 @@ pub came-and-lacking :
 came-and-lacking f a b bound low high lt =
     let order : a ≤ b = low.1 b high.0 in
     (order, count-split f (λ m. leb a m && leb m b) bound (λ m in-it. let x = low.1 m in-it in let y = high.1 m in-it in grind (arith, nat_tests)) ∙ count_between a b bound order lt)
+
+-- the lowest number by the first span, and the highest by the last
+pub lowest_by_first :
+    (xs : List Span) (P : Bor Span → Type 0) (first : Option (Bor Span)) → Rises 0 xs → IfSome first (λ s. s.now ≡ get_or xs 0 s.now)
+    → MatchOption first (length xs ≤ 0) (λ s. (0 < length xs) × P s) → Lowest (held xs) (option_map (λ s. s.now.low) first)
+lowest_by_first xs P (Some s) rises is some = lowest_at xs s.now rises some.0 is
+lowest_by_first xs P None rises is none = none_in xs none
+
+pub highest_by_last :
+    (xs : List Span) (P : Bor Span → Type 0) (last : Option (Bor Span)) → Rises 0 xs → IfSome last (λ s. s.now ≡ get_or xs (length xs - 1) s.now)
+    → MatchOption last (length xs ≤ 0) (λ s. (0 < length xs) × P s) → Highest (held xs) (option_map (λ s. s.now.high) last)
+highest_by_last xs P (Some s) rises is some = highest_last xs s.now rises some.0 is
+highest_by_last xs P None rises is none = none_in xs none

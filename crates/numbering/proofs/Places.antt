@@ -1,8 +1,10 @@
 -- Where a number stands among rising spans, and what it is to their numbers by its place.
-use Rattle.std.proofs.Common.{◌≡◌, ℕ, zero, suc, ◌+◌, ◌<◌, ◌≤◌, Bool, true, false, ◌&&◌, ◌||◌, leb, ◌⊎◌, List, [], ◌∷◌, ◌++◌, length, get_or, take, drop, sym, refl, ap, ◌∙◌, subst, ⊎_elim, add-one, arith}
+use Rattle.std.proofs.Common.{◌≡◌, ℕ, zero, suc, ◌+◌, ◌-◌, ◌<◌, ◌≤◌, Bool, true, false, ◌&&◌, ◌||◌, leb, ltb, ◌⊎◌, List, [], ◌∷◌, ◌++◌, length, get_or, take, drop, sym, refl, ap, ◌∙◌, subst, ⊎_elim, add-one, arith}
 use Rattle.std.proofs.lemmas.Bool.Decides.{nat_tests}
-use Rattle.std.proofs.lemmas.Bool.{and_parts, and_from, le-leb, leb-true, cases_lt, both_ways, cases_Bool, or_left, or_right, or_from}
+use Rattle.std.proofs.lemmas.Bool.{and_parts, and_from, le-leb, leb-true, lt-ltb, ltb-true, ltb-false, cases_lt, both_ways, cases_Bool, or_left, or_right, or_from}
 use Rattle.std.proofs.lemmas.List.{take-append-drop, drop_more, drop_all}
+use Rattle.std.specs.List.{AllWithin}
+use Rattle.std.specs.List.Sorted.{IsPartitionedBy}
 use Rattle.numbering.specs.declared.span.Span.{Span}
 use Rattle.numbering.specs.Spans.{inside, held, Rises, rising, Clear, Near}
 use Rattle.numbering.specs.declared.seen.Seen.{Seen}
@@ -47,6 +49,40 @@ pub near-end : (i n : ℕ) (ss : List Span) → i ≡ length ss → Near n (drop
 near-end i n [] e = rw e tt
 near-end zero n (s ∷ ss) e = absurd (omega arith)
 near-end (suc i) n (s ∷ ss) e = near-end i n ss (omega arith)
+
+-- whether a span ends so far below a number that the number does not touch it
+abbrev pub far : ℕ → Span → Bool
+far n s = ltb 1 (n - s.high)
+
+high_rises : (b i j : ℕ) (d : Span) (ss : List Span) → Rises b ss → i ≤ j → j < length ss → (get_or ss i d).high ≤ (get_or ss j d).high
+high_rises b i j d [] r le lt = absurd (omega arith)
+high_rises b zero zero d (s ∷ ss) r le lt = omega arith
+high_rises b zero (suc j) d (s ∷ ss) r le lt = omega (arith, rises_at (s.high + 2) j d ss r.2 (omega arith))
+high_rises b (suc i) zero d (s ∷ ss) r le lt = absurd (omega arith)
+high_rises b (suc i) (suc j) d (s ∷ ss) r le lt = high_rises (s.high + 2) i j d ss r.2 (omega arith) (omega arith)
+
+-- rising spans are parted by it
+pub far_first : (n : ℕ) (ss : List Span) → Rises 0 ss → IsPartitionedBy (far n) ss
+far_first n ss r i j d le lt e =
+    let up = high_rises 0 i j d ss r le lt in
+    let above = ltb-true 1 (n - (get_or ss j d).high) e in
+    lt-ltb 1 (n - (get_or ss i d).high) (omega (arith, up, above))
+
+pub clear_before : (i n : ℕ) (ss : List Span) → Rises 0 ss → i ≤ length ss → AllWithin (λ s. far n s ≡ true) ss 0 i → Clear n (take i ss)
+clear_before zero n [] r le all = tt
+clear_before zero n (s ∷ ss) r le all = tt
+clear_before (suc i) n ss r le all =
+    let d : Span = record { low = 0; high = 0 } in
+    let above = ltb-true 1 (n - (get_or ss i d).high) (all i d (omega arith) (omega arith)) in
+    clear_to 0 i n d ss r (omega arith) (omega (arith, above))
+
+pub near_from : (i n : ℕ) (ss : List Span) → i ≤ length ss → AllWithin (λ s. far n s ≡ false) ss i (length ss) → Near n (drop i ss)
+near_from i n ss le all =
+    let d : Span = record { low = 0; high = 0 } in
+    ⊎_elim
+    (λ (h : i < length ss). let close = ltb-false 1 (n - (get_or ss i d).high) (all i d (omega arith) h) in near_at i n d ss h (omega (arith, close)))
+    (λ (h : length ss ≤ i). near-end i n ss (omega arith))
+    (cases_lt i (length ss))
 
 -- what stands clear of a number has none from it on
 same_above : (front back : List Span) (n m : ℕ) → Clear n front → n ≤ m → held (front ++ back) m ≡ held back m

@@ -40,20 +40,14 @@ impl Numbers {
     pub fn first(&self) -> Option<u32>
         ensures { Lowest (has self.now) result }
     {
-        match self.spans.first() {
-            Some(span) => Some(span.low),
-            None => None,
-        }
+        self.spans.first().map(|span| span.low)
     }
 
     // The highest number that came.
     pub fn last(&self) -> Option<u32>
         ensures { Highest (has self.now) result }
     {
-        match self.spans.last() {
-            Some(span) => Some(span.high),
-            None => None,
-        }
+        self.spans.last().map(|span| span.high)
     }
 
     // How many numbers between the lowest and the highest never came.

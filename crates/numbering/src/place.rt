@@ -12,18 +12,7 @@ pub(crate) fn place(spans: &[Span], n: u32) -> usize
     ensures before { Clear n (take result spans.now) }
     ensures behind { Near n (drop result spans.now) }
 {
-    let mut low = 0;
-    let mut high = spans.len();
-    let mut middle = high.saturating_sub(1);
-    while low < high {
-        if n.saturating_sub(spans[middle].high) > 1 {
-            low = middle + 1;
-        } else {
-            high = middle;
-        }
-        middle = low + (high - low) / 2;
-    }
-    low
+    spans.partition_point(|span| n.saturating_sub(span.high) > 1)
 }
 
 // What `n` is to the numbers of the spans, by its place.
