@@ -36,10 +36,6 @@ clear_to b zero n d (s ∷ ss) r lt h = (h, tt)
 clear_to b (suc i) n d (s ∷ ss) r lt h =
     (omega (arith, rises_at (s.high + 2) i d ss r.2 (omega arith)), clear_to (s.high + 2) i n d ss r.2 (omega arith) h)
 
--- where one span stands clear of `n`, all up to it do
-pub clear_more : (i n : ℕ) (d : Span) (ss : List Span) → Rises 0 ss → i < length ss → (get_or ss i d).high + 1 < n → Clear n (take (i + 1) ss)
-clear_more i n d ss r lt h = rw add-one (clear_to 0 i n d ss r lt (omega arith))
-
 pub near_at : (i n : ℕ) (d : Span) (ss : List Span) → i < length ss → n ≤ (get_or ss i d).high + 1 → Near n (drop i ss)
 near_at i n d [] lt h = absurd (omega arith)
 near_at zero n d (s ∷ ss) lt h = h
