@@ -4,7 +4,8 @@ use Rattle.std.specs.List.{remove}
 use Rattle.std.proofs.lemmas.Bool.Decides.{nat_tests}
 use Rattle.std.proofs.lemmas.List.{take-append-drop, drop_all, take_more_set, append_assoc, drop-set-lt}
 use Rattle.numbering.specs.declared.span.Span.{Span}
-use Rattle.numbering.specs.Spans.{inside, held, Rises, Clear, Entered}
+use Rattle.std.specs.Bool.{if◌then◌else◌}
+use Rattle.numbering.specs.Spans.{inside, held, Rises, rising, Clear, Entered}
 
 alone : (s : Span) (n m : ℕ) → s.low ≡ n → s.high ≡ n → inside s m ≡ eqb m n
 alone s n m l h = grind (arith, nat_tests)
@@ -135,3 +136,8 @@ above-none n p xs le = let K : List Span → Type 0 = λ l. Above n l in subst K
 
 pub above-here : (n p : ℕ) (s : Span) (xs rest : List Span) → drop p xs ≡ s ∷ rest → n + 2 ≤ s.low → Above n (drop p xs)
 above-here n p s xs rest e le = let K : List Span → Type 0 = λ l. Above n l in subst K (sym e) le
+
+-- of two lists of spans that rise, either does
+pub rising_either : (b : Bool) (xs ys : List Span) → rising 0 xs ≡ true → rising 0 ys ≡ true → rising 0 (if b then xs else ys) ≡ true
+rising_either true xs ys p q = p
+rising_either false xs ys p q = q

@@ -6,7 +6,7 @@ use Rattle.numbering.specs.Counting.{count}
 use Rattle.numbering.specs.Answer.{Lowest, Highest}
 
 abbrev pub has : Numbers → ℕ → Bool
-has s m = held (vec_items s.spans) m
+has s m = held (vec_items s.spans.list) m
 
 -- the numbers from `a` to `b` that did not come
 abbrev pub lacking : (ℕ → Bool) → ℕ → ℕ → ℕ → Bool

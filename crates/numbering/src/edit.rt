@@ -1,7 +1,8 @@
 ghost use Rattle.std.specs.Prelude.{◌≡◌, ◌+◌, ◌<◌, ◌≤◌, false, ◌∷◌, ◌++◌, length, take, drop, vec_len, MatchResult};
-ghost use Rattle.numbering.specs.Spans.{held, Rises, Clear, Near, Entered};
+ghost use Rattle.numbering.specs.Spans.{held, Clear, Near, Entered};
 
 use crate::span::Span;
+use crate::spans::Spans;
 use std::alloc::AllocError;
 
 // Puts a span in the place of one.
@@ -21,58 +22,58 @@ fn unite(spans: &mut Vec<Span>, p: usize, span: Span)
     spans.remove(p + 1);
 }
 
-// Lets the span at `p`, which ends right below `n`, reach to `n`, and joins it to the next where they touch.
-fn extend(spans: &mut Vec<Span>, p: usize, span: Span, n: u32)
-    requires rises { Rises 0 spans.old.items }
-    requires within { p < vec_len spans.old }
-    requires before { Clear n (take p spans.old.items) }
-    requires here { drop p spans.old.items ≡ span ∷ drop (p + 1) spans.old.items }
-    requires touches { span.high + 1 ≡ n }
-    ensures { Entered n spans.old.items spans.new.items }
-{
-    if p + 1 < spans.len() {
-        let Span { low, high } = spans[p + 1];
-        if low - 1 == n {
-            return unite(
-                spans,
-                p,
-                Span {
-                    low: span.low,
-                    high,
-                },
-            );
+impl Spans {
+    // Lets the span at `p`, which ends right below `n`, reach to `n`, and joins it to the next where they touch.
+    fn extend(&mut self, p: usize, span: Span, n: u32)
+        requires within { p < vec_len self.old.list }
+        requires before { Clear n (take p self.old.list.items) }
+        requires here { drop p self.old.list.items ≡ span ∷ drop (p + 1) self.old.list.items }
+        requires touches { span.high + 1 ≡ n }
+        ensures { Entered n self.old.list.items self.new.list.items }
+    {
+        if p + 1 < self.list.len() {
+            let Span { low, high } = self.list[p + 1];
+            if low - 1 == n {
+                return unite(
+                    &mut self.list,
+                    p,
+                    Span {
+                        low: span.low,
+                        high,
+                    },
+                );
+            }
         }
+        replace(
+            &mut self.list,
+            p,
+            Span {
+                low: span.low,
+                high: n,
+            },
+        )
     }
-    replace(
-        spans,
-        p,
-        Span {
-            low: span.low,
-            high: n,
-        },
-    )
-}
 
-// Enters `n`, which is no member, at its place.
-pub(crate) fn enter(spans: &mut Vec<Span>, p: usize, n: u32) -> Result<(), AllocError>
-    requires rises { Rises 0 spans.old.items }
-    requires within { p ≤ vec_len spans.old }
-    requires before { Clear n (take p spans.old.items) }
-    requires behind { Near n (drop p spans.old.items) }
-    requires absent { held spans.old.items n ≡ false }
-    ensures { MatchResult result (λ _. Entered n spans.old.items spans.new.items) (λ _. spans.new.items ≡ spans.old.items) }
-{
-    if p < spans.len() {
-        let Span { low, high } = spans[p];
-        if low <= n {
-            extend(spans, p, Span { low, high }, n);
-            return Ok(());
+    // Enters `n`, which is no member, at its place.
+    pub(crate) fn enter(&mut self, p: usize, n: u32) -> Result<(), AllocError>
+        requires within { p ≤ vec_len self.old.list }
+        requires before { Clear n (take p self.old.list.items) }
+        requires behind { Near n (drop p self.old.list.items) }
+        requires absent { held self.old.list.items n ≡ false }
+        ensures { MatchResult result (λ _. Entered n self.old.list.items self.new.list.items) (λ _. self.new.list.items ≡ self.old.list.items) }
+    {
+        if p < self.list.len() {
+            let Span { low, high } = self.list[p];
+            if low <= n {
+                self.extend(p, Span { low, high }, n);
+                return Ok(());
+            }
+            if n + 1 == low {
+                replace(&mut self.list, p, Span { low: n, high });
+                return Ok(());
+            }
         }
-        if n + 1 == low {
-            replace(spans, p, Span { low: n, high });
-            return Ok(());
-        }
+        self.list.insert(p, Span { low: n, high: n })?;
+        Ok(())
     }
-    spans.insert(p, Span { low: n, high: n })?;
-    Ok(())
 }

@@ -7,4 +7,5 @@ pub mod numbers;
 pub mod place;
 pub mod seen;
 pub mod span;
+pub mod spans;
 pub mod stream;

@@ -2,10 +2,9 @@ ghost use Rattle.std.specs.Prelude.{◌≡◌, ℕ, false, ◌||◌, is_ok, IfOk
 ghost use Rattle.numbering.specs.Answer.{Answer, Lowest, Highest};
 ghost use Rattle.numbering.specs.Members.{has, Missing};
 
-use crate::edit::enter;
 use crate::numbers::Numbers;
-use crate::place::{place, seen_at};
 use crate::seen::Seen;
+use crate::spans::Spans;
 use std::alloc::{AllocError, Global};
 
 impl Numbers {
@@ -14,7 +13,9 @@ impl Numbers {
         ensures { (m : ℕ) → has result m ≡ false }
     {
         Numbers {
-            spans: Vec::new(heap),
+            spans: Spans {
+                list: Vec::new(heap),
+            },
             came: 0,
         }
     }
@@ -24,12 +25,12 @@ impl Numbers {
         ensures answer { IfOk result (λ seen. Answer (has self.old) n seen) }
         ensures members { (m : ℕ) → has self.new m ≡ (if is_ok result then (m == n) || has self.old m else has self.old m) }
     {
-        let p = place(self.spans.as_slice(), n);
-        let seen = seen_at(self.spans.as_slice(), p, n);
+        let p = self.spans.place(n);
+        let seen = self.spans.seen_at(p, n);
         match seen {
             Seen::Repeated => {}
             Seen::New | Seen::Late => {
-                enter(&mut self.spans, p, n)?;
+                self.spans.enter(p, n)?;
                 self.came += 1;
             }
         }
@@ -40,14 +41,14 @@ impl Numbers {
     pub fn first(&self) -> Option<u32>
         ensures { Lowest (has self.now) result }
     {
-        self.spans.first().map(|span| span.low)
+        self.spans.list.first().map(|span| span.low)
     }
 
     // The highest number that came.
     pub fn last(&self) -> Option<u32>
         ensures { Highest (has self.now) result }
     {
-        self.spans.last().map(|span| span.high)
+        self.spans.list.last().map(|span| span.high)
     }
 
     // How many numbers between the lowest and the highest never came.

@@ -1,14 +1,13 @@
-ghost use Rattle.std.specs.Prelude.{◌≡◌, ◌^◌, true};
-ghost use Rattle.numbering.specs.Spans.{held, rising};
+ghost use Rattle.std.specs.Prelude.{◌≡◌, ◌^◌};
+ghost use Rattle.numbering.specs.Spans.{held};
 ghost use Rattle.numbering.specs.Counting.{count};
 
-use crate::span::Span;
+use crate::spans::Spans;
 
-// the sequence numbers of one stream that came: spans in rising order with a gap between each two, and how many numbers came
+// the sequence numbers of one stream that came, by spans, and how many came
 #[derive(Drop)]
 pub struct Numbers {
-    pub(crate) spans: Vec<Span>,
+    pub(crate) spans: Spans,
     pub(crate) came: u64,
-    ghost rises: { rising 0 spans.items ≡ true },
-    ghost total: { came ≡ count (held spans.items) (2 ^ 32) },
+    ghost total: { came ≡ count (held spans.list.items) (2 ^ 32) },
 }

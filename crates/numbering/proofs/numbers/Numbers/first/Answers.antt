@@ -17,5 +17,5 @@ returns c =
     let R : List Span → Type 0 = λ l. rising 0 l ≡ true in
     let F : List Span → Type 0 = λ l. Lowest (held l) (option_map (λ (s : Bor Span). s.now.low) found) in
     let item = c.first.ensures.item in
-    let told = lowest_by_first spans _ found (rises_since 0 spans (subst R (sym same) c.args.self.now.rises)) item.1 item.3 in
+    let told = lowest_by_first spans _ found (rises_since 0 spans (subst R (sym same) c.args.self.now.spans.rises)) item.1 item.3 in
     subst (λ (o : Option ℕ). Lowest (has c.args.self.now) o) (sym is) (subst F same told)

@@ -17,5 +17,5 @@ returns c =
     let R : List Span → Type 0 = λ l. rising 0 l ≡ true in
     let F : List Span → Type 0 = λ l. Highest (held l) (option_map (λ (s : Bor Span). s.now.high) found) in
     let item = c.last.ensures.item in
-    let told = highest_by_last spans _ found (rises_since 0 spans (subst R (sym same) c.args.self.now.rises)) item.1 item.3 in
+    let told = highest_by_last spans _ found (rises_since 0 spans (subst R (sym same) c.args.self.now.spans.rises)) item.1 item.3 in
     subst (λ (o : Option ℕ). Highest (has c.args.self.now) o) (sym is) (subst F same told)
