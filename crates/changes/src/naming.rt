@@ -61,6 +61,7 @@ impl Named {
     }
 
     // The highest number of a packet that names the instrument of a slot, or 0.
+    // kept: packets are numbered from 1, and callers only ask whether a number is above another, which no packet never is
     pub fn latest_of(&self, slot: usize) -> u64
         ensures { result ≡ slice_index self.now.latest slot }
     {

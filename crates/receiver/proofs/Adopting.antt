@@ -23,6 +23,7 @@ use Rattle.settling.specs.Each.{Puts, book_at}
 use Rattle.settling.proofs.Writes.{puts, set_at, wrote, stays}
 use Rattle.receiver.specs.declared.subscription.Subscription.{Subscription}
 use Rattle.receiver.specs.declared.plain.Plain.{Plain}
+use Rattle.settling.specs.Placed.{numbers_of, sizes_of}
 use Rattle.receiver.specs.Standings.{opening_of, plain_of, state_in}
 
 -- a snapshot that is not idle sets the mark
@@ -53,12 +54,12 @@ module _ {V O : Type 0} (K : Kind V O) (u : Subscription) (p p' : Plain) (m m' :
   wants = sym (ap (λ z. ltb z (length m.slots) && not (idle (get_or p.marks.at z Stale) g.last p.places.heard)) (sym is) ∙ rw (fit.0, busy))
 
   module _ (after : m' ≡ store_adopted K m slot) (marks : p'.marks.at ≡ set p.marks.at slot (comes (Whole g.last p.places.heard) (get_or p.marks.at slot Stale)))
-      (heard : p'.places.heard ≡ max p.places.heard g.last) (numbers : p'.places.numbers ≡ p.places.numbers) (lengths : p'.places.lengths ≡ p.places.lengths)
+      (heard : p'.places.heard ≡ max p.places.heard g.last) (places : p'.places.at ≡ p.places.at)
       (joined : p'.joined ≡ p.joined) (followed : p'.followed ≡ p.followed) (pending : p'.pending ≡ p.pending) where
-    shelf-is : (k : ℕ) → shelf_of u.sheet p'.places.heard p'.places.numbers p'.places.lengths bytes k ≡ kept (max p.places.heard g.last) (shelf_of u.sheet p.places.heard p.places.numbers p.places.lengths bytes) k
-    shelf-is k = (λ j. shelf_of u.sheet (heard j) (numbers j) (lengths j) bytes k) ∙ keeps u.sheet p.places.heard g.last (max p.places.heard g.last) p.places.numbers p.places.lengths bytes refl k
+    shelf-is : (k : ℕ) → shelf_of u.sheet p'.places.heard (numbers_of p'.places.at) (sizes_of p'.places.at) bytes k ≡ kept (max p.places.heard g.last) (shelf_of u.sheet p.places.heard (numbers_of p.places.at) (sizes_of p.places.at) bytes) k
+    shelf-is k = (λ j. shelf_of u.sheet (heard j) (numbers_of (places j)) (sizes_of (places j)) bytes k) ∙ keeps u.sheet p.places.heard g.last (max p.places.heard g.last) (numbers_of p.places.at) (sizes_of p.places.at) bytes refl k
 
-    plain-is : plain_of u.sheet p' bytes ≡ hearing (max p.places.heard g.last) (kept (max p.places.heard g.last) (shelf_of u.sheet p.places.heard p.places.numbers p.places.lengths bytes)) (plain_of u.sheet p bytes)
+    plain-is : plain_of u.sheet p' bytes ≡ hearing (max p.places.heard g.last) (kept (max p.places.heard g.last) (shelf_of u.sheet p.places.heard (numbers_of p.places.at) (sizes_of p.places.at) bytes)) (plain_of u.sheet p bytes)
     plain-is = λ j. record { heard = heard j; shelf = λ k. shelf-is k j; joined = joined j; followed = followed j; pending = pending j }
 
     wrote_is : m' ≡ with_slot K m slot m.staged
@@ -73,7 +74,7 @@ module _ {V O : Type 0} (K : Kind V O) (u : Subscription) (p p' : Plain) (m m' :
     books-is : (q : ℕ) → book_at K p'.marks.at m' q ≡ cond (eqb q (slot_of (opening_of u) g.security)) (book (AsOf g.last) m.staged) (book_at K p.marks.at m q)
     books-is q = puts_is.books q ∙ ap (λ z. cond (eqb q z) (book (AsOf g.last) m.staged) (book_at K p.marks.at m q)) is
 
-    state_is : state_in K u p' m' bytes ≡ with_plain (hearing (max p.places.heard g.last) (kept (max p.places.heard g.last) (shelf_of u.sheet p.places.heard p.places.numbers p.places.lengths bytes)) (plain_of u.sheet p bytes)) (with_book (slot_of (opening_of u) g.security) (book (AsOf g.last) m.staged) (state_in K u p m bytes))
+    state_is : state_in K u p' m' bytes ≡ with_plain (hearing (max p.places.heard g.last) (kept (max p.places.heard g.last) (shelf_of u.sheet p.places.heard (numbers_of p.places.at) (sizes_of p.places.at) bytes)) (plain_of u.sheet p bytes)) (with_book (slot_of (opening_of u) g.security) (book (AsOf g.last) m.staged) (state_in K u p m bytes))
     state_is = λ j. record { plain = plain-is j; books = λ q. books-is q j; rest = sym puts_is.rest j }
 
     pub adopts : (K' : Kind V O) (p'' : Plain) (m'' : Model V O) → K' ≡ K → state_in K' u p'' m'' bytes ≡ settled K' (opening_of u) (state_in K' u p' m' bytes)

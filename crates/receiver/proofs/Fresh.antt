@@ -17,6 +17,7 @@ use Rattle.settling.specs.Watched.{watch_of}
 use Rattle.receiver.specs.declared.subscription.Subscription.{Subscription}
 use Rattle.receiver.specs.declared.plain.Plain.{Plain}
 use Rattle.receiver.specs.Standings.{opening_of, state_in}
+use Rattle.settling.specs.Placed.{numbers_of, sizes_of}
 use Rattle.receiver.proofs.Accepted.{and_ok, refuses_ok}
 
 -- one place more has the value x
@@ -52,7 +53,7 @@ fresh-book true x v w d e f = ap₂ book e f
 fresh-book false x v w d e f = ap₂ book e f
 
 -- nothing lies on the shelf while nothing is heard
-bare : (sheet : Sheet) (t : Places) (bytes : List ℕ) → t.heard ≡ 0 → (k : ℕ) → shelf_of sheet t.heard t.numbers t.lengths bytes k ≡ absent
+bare : (sheet : Sheet) (t : Places) (bytes : List ℕ) → t.heard ≡ 0 → (k : ℕ) → shelf_of sheet t.heard (numbers_of t.at) (sizes_of t.at) bytes k ≡ absent
 bare sheet t bytes e k = let u = t.low (k % 32) in grind (arith, nat_tests)
 
 pub opens-fresh : {V O : Type 0} (K : Kind V O) (u : Subscription) (p : Plain) (s s' : Model V O) (n : ℕ) (bytes : List ℕ) → n ≡ length (watch_of u.watch)

@@ -7,6 +7,7 @@ use Rattle.recovery.specs.Shelf.{shelf_of}
 use Rattle.recovery.specs.State.{Opening, Plain as PlainState, State, slot_in, state_of}
 use Rattle.settling.specs.Watched.{watch_of}
 use Rattle.receiver.specs.declared.subscription.Subscription.{Subscription}
+use Rattle.settling.specs.Placed.{numbers_of, sizes_of}
 use Rattle.receiver.specs.declared.plain.Plain.{Plain}
 
 -- what the receiver was opened with
@@ -17,7 +18,7 @@ opening_of u = record { channel = u.channel; version = u.version; own = u.own; w
 abbrev pub plain_of : Sheet → Plain → List ℕ → PlainState
 plain_of sheet p bytes = record {
   heard = p.places.heard;
-  shelf = shelf_of sheet p.places.heard p.places.numbers p.places.lengths bytes;
+  shelf = shelf_of sheet p.places.heard (numbers_of p.places.at) (sizes_of p.places.at) bytes;
   joined = p.joined;
   followed = p.followed;
   pending = p.pending;

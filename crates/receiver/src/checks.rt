@@ -5,6 +5,7 @@ ghost use Rattle.recovery.specs.Answers.{refuses, lawful_version, opening_check,
 ghost use Rattle.receiver.specs.Standings.{opening_of, plain_of};
 ghost use Rattle.receiver.specs.Judged.{judged};
 ghost use Rattle.receiver.specs.Notes.{noted_plain};
+ghost use Rattle.settling.specs.Placed.{numbers_of};
 
 use crate::plain::Plain;
 use crate::subscription::Subscription;
@@ -125,7 +126,7 @@ impl Subscription {
         shelf: &[u8],
         bytes: &[u8],
     ) -> Result<Incremental, StreamFault>
-        ensures { result ≡ judged (opening_of self.now) plain.now.places.heard plain.now.places.numbers (length shelf.now) bytes.now }
+        ensures { result ≡ judged (opening_of self.now) plain.now.places.heard (numbers_of plain.now.places.at) (length shelf.now) bytes.now }
     {
         self.bytes_check(shelf, bytes)?;
         let h = head_of(&self.sheet, bytes);

@@ -38,7 +38,7 @@ impl Plain {
         requires { slot < 64 }
         ensures marks { self.new.marks.at ≡ slice_set self.old.marks.at slot (comes (Whole n self.old.places.heard) (slice_index_or self.old.marks.at slot Stale)) }
         ensures heard { self.new.places.heard ≡ max self.old.places.heard n }
-        ensures places { (self.new.places.numbers ≡ self.old.places.numbers) × (self.new.places.lengths ≡ self.old.places.lengths) }
+        ensures places { self.new.places.at ≡ self.old.places.at }
         ensures others { (self.new.joined ≡ self.old.joined) × (self.new.followed ≡ self.old.followed) × (self.new.pending ≡ self.old.pending) }
     {
         let heard = self.places.heard;

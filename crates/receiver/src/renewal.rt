@@ -5,6 +5,7 @@ ghost use Rattle.recovery.specs.Shelf.{part_of, written};
 ghost use Rattle.recovery.specs.Incremental.{settled, received};
 ghost use Rattle.receiver.specs.Judged.{judged};
 ghost use Rattle.receiver.specs.Standings.{opening_of, state_in};
+ghost use Rattle.settling.specs.Placed.{numbers_of, sizes_of};
 
 use crate::checks::head_of;
 use crate::plain::Plain;
@@ -22,7 +23,7 @@ impl Plain {
         shelf: Shelf,
         known: Option<u64>,
     )
-        requires { IfSome known (λ k. is_ok (packet_check sub.now.sheet (part_of self.old.places.lengths shelf.bytes.now k)) ≡ true) }
+        requires { IfSome known (λ k. is_ok (packet_check sub.now.sheet (part_of (sizes_of self.old.places.at) shelf.bytes.now k)) ≡ true) }
         ensures state { state_in (S.kind (S.setup store.old)) sub.now self.new (S.model store.new) shelf.entry.bytes.now ≡ settled (S.kind (S.setup store.old)) (opening_of sub.now) (state_in (S.kind (S.setup store.old)) sub.now self.old (S.model store.old) shelf.entry.bytes.now) }
         ensures pending { self.new.pending ≡ self.old.pending }
         ensures places { self.new.places ≡ self.old.places }
@@ -47,7 +48,7 @@ impl Plain {
         shelf: &mut [u8],
         bytes: &[u8],
     )
-        requires { judged (opening_of sub.now) self.old.places.heard self.old.places.numbers (length shelf.old) bytes.now ≡ Ok Taken }
+        requires { judged (opening_of sub.now) self.old.places.heard (numbers_of self.old.places.at) (length shelf.old) bytes.now ≡ Ok Taken }
         ensures shelf { shelf.new ≡ written shelf.old (packet_head bytes.now).number bytes.now }
         ensures state { state_in (S.kind (S.setup store.old)) sub.now self.new (S.model store.new) shelf.new ≡ received (S.kind (S.setup store.old)) (opening_of sub.now) bytes.now (state_in (S.kind (S.setup store.old)) sub.now self.old (S.model store.old) shelf.old) }
         ensures pending { self.new.pending ≡ self.old.pending }

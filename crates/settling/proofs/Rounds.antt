@@ -13,11 +13,12 @@ use Rattle.settling.specs.Marks.{stands}
 use Rattle.settling.specs.Passes.{noted, pass}
 use Rattle.settling.specs.Each.{Meets, Each, Low, book_at, kind_in}
 use Rattle.settling.proofs.Meeting.{start, turn}
+use Rattle.settling.specs.Placed.{numbers_of, sizes_of}
 use Rattle.settling.proofs.Climbing.{Blocked, blocked_idle, blocked_pass, low-pass, settle-pass, settle-end}
 
 module _ (sheet : Sheet) (t : Places) (bytes : List ℕ) where
   abbrev pub found : ℕ → Found
-  found k = shelf_of sheet t.heard t.numbers t.lengths bytes k
+  found k = shelf_of sheet t.heard (numbers_of t.at) (sizes_of t.at) bytes k
 
   pub low : (k : ℕ) → t.heard < k → found k ≡ absent
   low k l = let u = t.low (k % 32) in grind (arith, nat_tests)
@@ -25,10 +26,10 @@ module _ (sheet : Sheet) (t : Places) (bytes : List ℕ) where
   old : (k : ℕ) → k + 32 ≤ t.heard → found k ≡ absent
   old k l = grind (arith, nat_tests)
 
-  pub unshelved : (k : ℕ) → false ≡ shelved t.heard t.numbers k → found k ≡ absent
+  pub unshelved : (k : ℕ) → false ≡ shelved t.heard (numbers_of t.at) k → found k ≡ absent
   unshelved k e = rw (sym e)
 
-  pub on_shelf : (k : ℕ) → true ≡ shelved t.heard t.numbers k → reading sheet (part_of t.lengths bytes k) ≡ found k
+  pub on_shelf : (k : ℕ) → true ≡ shelved t.heard (numbers_of t.at) k → reading sheet (part_of (sizes_of t.at) bytes k) ≡ found k
   on_shelf k e = rw (sym e)
 
 -- watched books stand at r or above

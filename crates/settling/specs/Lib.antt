@@ -1,3 +1,4 @@
+pub mod Placed
 pub mod Slots
 pub mod Watched
 pub mod Marks

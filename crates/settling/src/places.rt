@@ -1,13 +1,19 @@
 ghost use Rattle.std.specs.Prelude.{◌≡◌, ℕ, ◌≤◌, length, slice_index};
+ghost use Rattle.settling.specs.Placed.{numbers_of, sizes_of};
 
-// the highest packet heard, and the number and the length of the packet at each place of the shelf
+// the number and the size of the packet at a place of the shelf
+#[derive(Clone, Copy)]
+pub struct Place {
+    pub number: u64,
+    pub size: usize,
+}
+
+// the highest packet heard, and what lies at each place of the shelf
 #[derive(Clone, Copy)]
 pub struct Places {
     pub heard: u64,
-    pub numbers: [u64; 32],
-    pub lengths: [usize; 32],
-    ghost places: { length numbers ≡ 32 },
-    ghost sizes: { length lengths ≡ 32 },
-    ghost low: { (p : ℕ) → slice_index numbers p ≤ heard },
-    ghost fit: { (p : ℕ) → slice_index lengths p ≤ 1400 },
+    pub at: [Place; 32],
+    ghost places: { length at ≡ 32 },
+    ghost low: { (p : ℕ) → slice_index (numbers_of at) p ≤ heard },
+    ghost fit: { (p : ℕ) → slice_index (sizes_of at) p ≤ 1400 },
 }

@@ -7,6 +7,7 @@ ghost use Rattle.settling.specs.Watched.{watch_of};
 ghost use Rattle.settling.specs.Marks.{stands};
 ghost use Rattle.settling.specs.Passes.{pass};
 ghost use Rattle.settling.specs.Each.{Each, Low};
+ghost use Rattle.settling.specs.Placed.{numbers_of, sizes_of};
 
 use crate::marks::Event;
 use crate::places::Places;
@@ -80,8 +81,8 @@ pub fn settle_all<S: Store>(
     shelf: Shelf,
     known: Option<u64>,
 )
-    requires { IfSome known (λ k. is_ok (packet_check sheet.now (part_of places.now.lengths shelf.bytes.now k)) ≡ true) }
-    ensures books { Each (S.kind (S.setup store.old)) (watch_of w.now) (λ k i x. settle k places.now.heard (shelf_of sheet.now places.now.heard places.now.numbers places.now.lengths shelf.entry.bytes.now) i x) marks.old.at (S.model store.old) marks.new.at (S.model store.new) }
+    requires { IfSome known (λ k. is_ok (packet_check sheet.now (part_of (sizes_of places.now.at) shelf.bytes.now k)) ≡ true) }
+    ensures books { Each (S.kind (S.setup store.old)) (watch_of w.now) (λ k i x. settle k places.now.heard (shelf_of sheet.now places.now.heard (numbers_of places.now.at) (sizes_of places.now.at) shelf.entry.bytes.now) i x) marks.old.at (S.model store.old) marks.new.at (S.model store.new) }
     ensures stays { S.setup store.new ≡ S.setup store.old }
 {
     let heard = places.heard;

@@ -1,8 +1,9 @@
-ghost use Rattle.std.specs.Prelude.{◌≡◌, ◌%◌, ◌≤◌, max, length, replicate, Ok, Err, MatchResult, slice_set};
+ghost use Rattle.std.specs.Prelude.{◌≡◌, ◌%◌, ◌≤◌, max, length, replicate, Ok, Err, MatchResult, slice_index, slice_set};
 ghost use Rattle.recovery.specs.Answers.{shelf_check};
 ghost use Rattle.recovery.specs.Shelf.{shelved, part_of, written};
+ghost use Rattle.settling.specs.Placed.{numbers_of, sizes_of};
 
-use crate::places::Places;
+use crate::places::{Place, Places};
 use recovery::fault::StreamFault;
 
 // the bytes of a shelf, which are enough for its 32 places
@@ -27,45 +28,49 @@ impl<'a> Shelf<'a> {
 impl Places {
     // Nothing heard, and nothing on the shelf.
     pub fn empty() -> Places
-        ensures { (result.heard ≡ 0) × (result.numbers ≡ replicate 32 0) × (result.lengths ≡ replicate 32 0) }
+        ensures { (result.heard ≡ 0) × (numbers_of result.at ≡ replicate 32 0) × (sizes_of result.at ≡ replicate 32 0) }
     {
         Places {
             heard: 0,
-            numbers: [0; 32],
-            lengths: [0; 32],
+            at: [Place { number: 0, size: 0 }; 32],
         }
     }
 
     // Whether packet k is on the shelf.
     pub fn shelved(&self, k: u64) -> bool
-        ensures { result ≡ shelved self.now.heard self.now.numbers k }
+        ensures { result ≡ shelved self.now.heard (numbers_of self.now.at) k }
     {
-        k > 0 && self.numbers[(k % 32) as usize] == k && self.heard.saturating_sub(k) < 32
+        k > 0 && self.at[(k % 32) as usize].number == k && self.heard.saturating_sub(k) < 32
+    }
+
+    // The size of what lies at the place of packet k.
+    fn size(&self, k: u64) -> usize
+        ensures value { result ≡ slice_index (sizes_of self.now.at) (k % 32) }
+        ensures small { result ≤ 1400 }
+    {
+        self.at[(k % 32) as usize].size
     }
 
     // The bytes at the place of packet k.
     pub fn part<'a>(&self, shelf: Shelf<'a>, k: u64) -> &'a [u8]
-        ensures { result.now ≡ part_of self.now.lengths shelf.entry.bytes.now k }
+        ensures { result.now ≡ part_of (sizes_of self.now.at) shelf.entry.bytes.now k }
     {
         let p = (k % 32) as usize;
-        let n = self.lengths[p];
-        &shelf.bytes[p * 1400..p * 1400 + n]
+        &shelf.bytes[p * 1400..p * 1400 + self.size(k)]
     }
 
     // Notes packet q, of n bytes, at its place.
     pub fn shelve(&mut self, q: u64, n: usize)
         requires { n ≤ 1400 }
-        ensures { (self.new.heard ≡ max self.old.heard q) × (self.new.numbers ≡ slice_set self.old.numbers (q % 32) q) × (self.new.lengths ≡ slice_set self.old.lengths (q % 32) n) }
+        ensures { (self.new.heard ≡ max self.old.heard q) × (numbers_of self.new.at ≡ slice_set (numbers_of self.old.at) (q % 32) q) × (sizes_of self.new.at ≡ slice_set (sizes_of self.old.at) (q % 32) n) }
     {
-        let p = (q % 32) as usize;
         self.heard = self.heard.max(q);
-        self.numbers[p] = q;
-        self.lengths[p] = n;
+        self.at[(q % 32) as usize] = Place { number: q, size: n };
     }
 
     // Hears that there is a packet n.
     pub fn hear(&mut self, n: u64)
-        ensures { (self.new.heard ≡ max self.old.heard n) × (self.new.numbers ≡ self.old.numbers) × (self.new.lengths ≡ self.old.lengths) }
+        ensures { (self.new.heard ≡ max self.old.heard n) × (self.new.at ≡ self.old.at) }
     {
         self.heard = self.heard.max(n);
     }

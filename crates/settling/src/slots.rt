@@ -10,6 +10,7 @@ use message::fields::security_of;
 use message::message::Message;
 
 // The first place of an instrument in a list, of which it is known that it is not before `start`.
+// kept: the watch list is searched by an index, which is both where the search starts and the slot that it finds
 fn place_from(list: &[u64], id: u64, start: usize) -> Option<usize>
     requires { start ≤ slot_in list.now id }
     ensures { result ≡ slot_found list.now id }
@@ -23,6 +24,7 @@ fn place_from(list: &[u64], id: u64, start: usize) -> Option<usize>
 }
 
 // Whether no instrument stands twice in a list.
+// kept: each place is compared with those behind it, and the place is the index of both
 pub fn all_different(list: &[u64]) -> bool
     ensures { result ≡ distinct list.now }
 {

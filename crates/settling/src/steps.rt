@@ -46,6 +46,7 @@ pub fn note_all<S: Store>(marks: &mut Marks, store: &mut S, w: &Watch, e: Event)
     ensures books { Each (S.kind (S.setup store.old)) (watch_of w.now) (noted e) marks.old.at (S.model store.old) marks.new.at (S.model store.new) }
     ensures stays { S.setup store.new ≡ S.setup store.old }
 {
+    // kept: the number of a slot goes to the marks and to the store alike
     for slot in 0..w.count {
         note(marks, store, slot, e);
     }

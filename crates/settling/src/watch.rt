@@ -4,6 +4,7 @@ ghost use Rattle.settling.specs.Slots.{Near};
 
 // the watched instruments, all different, each at its slot; `first` tells for the last digits of an instrument where a
 // search for it may start
+// kept: a sheet's table of places has another size, another key and another law, so that one type for both would share three lines
 #[derive(Clone, Copy)]
 pub struct Watch {
     pub(crate) ids: [u64; 64],

@@ -10,4 +10,4 @@ returns-clause-state g c =
     let lt : c.args.slot < length p.marks.at = omega (arith, p.marks.long, w.few, few, c.requires.1) in
     let busy = sym c.if-idle.ensures in let ok = fine c.adopt.result c.if-is_err.ensures.value ∙ c.adopt.ensures.answer in let e = c.note_adoption.ensures in
     adopts K u p c.note_adoption.new.self (m.model c.args.store.now) (m.model c.adopt.new.self) c.args.shelf.bytes.now c.args.slot c.args.g c.requires.0 lt busy ok c.adopt.ensures.after
-    e.marks e.heard e.places.0 e.places.1 e.others.0 e.others.1 e.others.2 _ c.renew.new.self (m.model c.renew.new.store) (ap m.kind c.adopt.ensures.stays) c.renew.ensures.state
+    e.marks e.heard e.places e.others.0 e.others.1 e.others.2 _ c.renew.new.self (m.model c.renew.new.store) (ap m.kind c.adopt.ensures.stays) c.renew.ensures.state

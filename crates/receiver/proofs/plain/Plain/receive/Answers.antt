@@ -4,6 +4,7 @@ use Rattle.recovery.specs.Shelf.{part_of, written}
 use Rattle.receiver.specs.Standings.{opening_of}
 use Rattle.receiver.proofs.Accepted.{accepted}
 use Rattle.receiver.proofs.Laying.{part_here, receives}
+use Rattle.settling.specs.Placed.{sizes_of}
 use Rattle.receiver.proofs.plain.Plain.receive.Goals as goal
 
 pub head_of-requires : goal.head_of-requires
@@ -19,7 +20,7 @@ pub renew-requires : goal.renew-requires
 renew-requires g c =
     let a = accepted (opening_of c.args.sub.now) _ _ (length c.args.shelf.now) c.args.bytes.now _ c.requires in
     let t = c.args.self.now.places in let e = c.shelve.ensures in let q = c.from-q.result in
-    ap (λ z. is_ok (packet_check c.args.sub.now.sheet (part_of c.shelve.new.self.lengths z q))) c.lay.ensures
+    ap (λ z. is_ok (packet_check c.args.sub.now.sheet (part_of (sizes_of c.shelve.new.self.at) z q))) c.lay.ensures
     ∙ ap (λ z. is_ok (packet_check c.args.sub.now.sheet z)) (part_here c.args.sub.now.sheet t c.shelve.new.self c.args.shelf.now c.args.bytes.now q a.long a.small e.0 e.1 e.2)
     ∙ a.whole
 

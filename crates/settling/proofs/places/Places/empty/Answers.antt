@@ -3,4 +3,4 @@ use Rattle.settling.proofs.Bounds.{zeros}
 use Rattle.settling.proofs.places.Places.empty.Goals as goal
 
 pub invariant_of-result : goal.invariant_of-result
-invariant_of-result c = record { places = refl; sizes = refl; low = λ p. zeros 32 p 0; fit = λ p. zeros 32 p 1400 }
+invariant_of-result c = record { places = refl; low = λ p. zeros 32 p 0; fit = λ p. zeros 32 p 1400 }
