@@ -31,7 +31,7 @@ pub fn entries_of<'a>(l: &EntriesLayout, part: &'a [u8]) -> Entries<'a>
     let Some(head) = head_of(part) else {
         return no_entries(part);
     };
-    let start = 12 + head.block;
+    let start = 12 + usize::from(head.block);
     let Some(size) = number(part, start, Width::Two) else {
         return no_entries(part);
     };

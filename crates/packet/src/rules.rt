@@ -22,15 +22,15 @@ struct Part<'a> {
 // The header of the message at the front of a part.
 fn head_check(part: &Part) -> Result<MessageHead, FrameFault>
     ensures value { MatchResult result (λ h. (is_ok (head_check part.now.bytes.now part.now.at) ≡ true) × (h ≡ message_head part.now.bytes.now)) (λ e. head_check part.now.bytes.now part.now.at ≡ Err e) }
-    ensures bounds { IfOk result (λ h. (12 ≤ h.length) × (h.length ≤ length part.now.bytes.now) × (h.block ≤ 65535)) }
+    ensures bounds { IfOk result (λ h. (12 ≤ h.length) × (h.length ≤ length part.now.bytes.now)) }
 {
     let rest = part.bytes;
     let at = part.at;
     let [l0, l1, e0, e1, b0, b1, t0, t1, s0, s1, _, _, ..] = rest else {
         return Err(FrameFault::Torn(at));
     };
-    let length = usize::from(u16::from_le_bytes([*l0, *l1]));
-    if length < 12 || length > rest.len() {
+    let length = u16::from_le_bytes([*l0, *l1]);
+    if length < 12 || usize::from(length) > rest.len() {
         return Err(FrameFault::Length(at));
     }
     if u16::from_le_bytes([*e0, *e1]) != 0xEB50 {
@@ -41,7 +41,7 @@ fn head_check(part: &Part) -> Result<MessageHead, FrameFault>
     }
     Ok(MessageHead {
         length,
-        block: usize::from(u16::from_le_bytes([*b0, *b1])),
+        block: u16::from_le_bytes([*b0, *b1]),
         template: u16::from_le_bytes([*t0, *t1]),
     })
 }
@@ -68,16 +68,15 @@ fn group_check(
 }
 
 // The root block of a message of a listed template, and its group.
-fn layout_check(t: &Template, message: &Part, block: usize) -> Result<(), FrameFault>
-    requires { block ≤ 65535 }
+fn layout_check(t: &Template, message: &Part, block: u16) -> Result<(), FrameFault>
     ensures { result ≡ layout_check (Some t.now.layout) message.now.bytes.now block message.now.at }
 {
-    let m = message.bytes;
-    if m.len() < 12 + block || block < usize::from(t.root) {
+    let start = 12 + usize::from(block);
+    if message.bytes.len() < start || block < t.root {
         return Err(FrameFault::Block(message.at + 4));
     }
     match &t.layout {
-        Layout::Entries(l) => group_check(l, t.entry, message, 12 + block),
+        Layout::Entries(l) => group_check(l, t.entry, message, start),
         _ => Ok(()),
     }
 }
@@ -92,6 +91,7 @@ fn message_check(sheet: &Sheet, part: &Part) -> Result<usize, FrameFault>
         block,
         template,
     } = head_check(part)?;
+    let length = usize::from(length);
     let message = Part {
         bytes: &part.bytes[..length],
         at: part.at,

@@ -65,15 +65,14 @@ fn told<'a, 's>(template: Option<&'s Template>, part: &'a [u8]) -> Message<'a, '
 
 // What the header at the front of `rest` says.
 pub(crate) fn head_of(rest: &[u8]) -> Option<MessageHead>
-    ensures bounds { IfSome result (λ h. (h.length ≤ 65535) × (h.block ≤ 65535)) }
-    ensures value { MatchOption result (length rest.now < 12) (λ h. (12 ≤ length rest.now) × (h ≡ message_head rest.now)) }
+    ensures { MatchOption result (length rest.now < 12) (λ h. (12 ≤ length rest.now) × (h ≡ message_head rest.now)) }
 {
     let [l0, l1, _, _, b0, b1, t0, t1, _, _, _, _, ..] = rest else {
         return None;
     };
     Some(MessageHead {
-        length: usize::from(u16::from_le_bytes([*l0, *l1])),
-        block: usize::from(u16::from_le_bytes([*b0, *b1])),
+        length: u16::from_le_bytes([*l0, *l1]),
+        block: u16::from_le_bytes([*b0, *b1]),
         template: u16::from_le_bytes([*t0, *t1]),
     })
 }
@@ -99,6 +98,7 @@ impl<'a, 's> Walk<'a, 's> {
             block: _,
             template,
         } = head_of(rest)?;
+        let length = usize::from(length);
         let (part, after) = rest.split_at(length);
         self.rest = after;
         self.at += length;
