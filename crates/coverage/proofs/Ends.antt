@@ -1,7 +1,7 @@
 -- All bands are clear at first, and turn one after the other at the end; one band takes two turns.
-use Rattle.std.proofs.Common.{◌≡◌, ℕ, ◌+◌, ◌<◌, ◌≤◌, min, Bool, true, ◌&&◌, eqb, ltb, List, [], ◌∷◌, ◌++◌, length, get_or, MatchBool, sym, ap, ◌∙◌, subst, ⊎_elim, arith}
+use Rattle.std.proofs.Common.{◌≡◌, ℕ, ◌+◌, ◌<◌, ◌≤◌, min, Bool, true, ◌&&◌, eqb, ltb, List, [], ◌∷◌, ◌++◌, length, get_or, set, length-set, MatchBool, sym, ap, ◌∙◌, subst, ⊎_elim, arith}
 use Rattle.std.proofs.lemmas.Bool.Decides.{nat_tests}
-use Rattle.std.proofs.lemmas.List.{get_or_push, get_or_append_left}
+use Rattle.std.proofs.lemmas.List.{get_or_push, get_or_append_left, get_or-set_same, get_or-set_other, get_or_default}
 use Rattle.std.proofs.lemmas.Bool.{cases_eq}
 use Rattle.coverage.specs.declared.band.Band.{Band}
 use Rattle.coverage.specs.declared.coverage.Coverage.{Coverage}
@@ -10,30 +10,30 @@ use Rattle.coverage.specs.Changes.{TurnTaken, Passed}
 use Rattle.coverage.specs.Held.{Clear}
 
 -- the bands below a slot have turned, the others are as they were
-pub record TurnedBelow (before after : Coverage) (slot next : ℕ) : Type 0 where
-  pub number : count after ≡ count before
-  pub below : (q : ℕ) (d : Band) → q < slot → TurnTaken (band_at before q d) (band_at after q d) next 0
-  pub above : (q : ℕ) (d : Band) → slot ≤ q → band_at after q d ≡ band_at before q d
+pub record TurnedBelow (before after : List Band) (slot next : ℕ) : Type 0 where
+  pub number : length after ≡ length before
+  pub below : (q : ℕ) (d : Band) → q < slot → TurnTaken (get_or before q d) (get_or after q d) next 0
+  pub above : (q : ℕ) (d : Band) → slot ≤ q → get_or after q d ≡ get_or before q d
 
 pub turned_more :
-    (a b c : Coverage) (slot next : ℕ) → slot < count b → Beside b c slot
-    → ((d : Band) → slot < count b → TurnTaken (band_at b slot d) (band_at c slot d) next 0)
-    → TurnedBelow a b slot next → TurnedBelow a c (slot + 1) next
-turned_more a b c slot next lt beside turned below =
+    (xs ys : List Band) (slot next : ℕ) (a b : Band) → slot < length ys → TurnTaken (get_or ys slot a) b next 0
+    → TurnedBelow xs ys slot next → TurnedBelow xs (set ys slot b) (slot + 1) next
+turned_more xs ys slot next a b lt turned below =
     record {
-      number = beside.number ∙ below.number;
+      number = length-set ys slot b ∙ below.number;
       below =
           λ q d h.
           ⊎_elim
           (λ (here : q ≡ slot).
-          let P : ℕ → Type 0 = λ k. TurnTaken (band_at a k d) (band_at c k d) next 0 in
-          let F : Band → Type 0 = λ x. TurnTaken x (band_at c slot d) next 0 in
-          subst P (sym here) (subst F (below.above slot d (omega arith)) (turned d lt)))
+          let P : ℕ → Type 0 = λ k. TurnTaken (get_or xs k d) (get_or (set ys slot b) k d) next 0 in
+          let F : Band → Type 0 = λ x. TurnTaken (get_or xs slot d) x next 0 in
+          let G : Band → Type 0 = λ x. TurnTaken x b next 0 in
+          subst P (sym here) (subst F (sym (get_or-set_same ys slot b d lt)) (subst G (get_or_default ys slot a d lt ∙ below.above slot d (omega arith)) turned)))
           (λ (ne : q ≡ slot → ⊥).
-          let F : Band → Type 0 = λ x. TurnTaken (band_at a q d) x next 0 in
-          subst F (sym (beside.others q d ne)) (below.below q d (omega arith)))
+          let F : Band → Type 0 = λ x. TurnTaken (get_or xs q d) x next 0 in
+          subst F (sym (get_or-set_other ys slot q b d ne)) (below.below q d (omega arith)))
           (cases_eq q slot);
-      above = λ q d h. beside.others q d (omega arith) ∙ below.above q d (omega arith);
+      above = λ q d h. get_or-set_other ys slot q b d (omega arith) ∙ below.above q d (omega arith);
     }
 
 pub clear-push :

@@ -2,3 +2,4 @@ mod Fills
 mod Columns
 mod Rounds
 mod Ends
+mod Runs

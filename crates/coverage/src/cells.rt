@@ -1,20 +1,14 @@
-ghost use Rattle.std.specs.Prelude.{◌≡◌, ◌≤◌, max, length};
+ghost use Rattle.std.specs.Prelude.{◌≡◌, ◌≤◌, length};
 ghost use Rattle.coverage.specs.Cells.{Lifted, Halved};
-
-// The higher of two levels, which is the worse.
-fn worse(a: u8, b: u8) -> u8
-    ensures { result ≡ max a b }
-{
-    a.max(b)
-}
 
 // Lifts the cells from one place to before another to a level, where they are below it.
 pub(crate) fn lift(cells: &mut [u8], from: usize, end: usize, level: u8)
     requires { (from ≤ end) × (end ≤ length cells.old) }
     ensures { Lifted cells.old cells.new from end level }
 {
-    for k in from..end {
-        cells[k] = worse(cells[k], level);
+    let lifted = &mut cells[from..end];
+    for cell in lifted.iter_mut() {
+        *cell = (*cell).max(level);
     }
 }
 
@@ -23,10 +17,9 @@ pub(crate) fn halve(cells: &mut [u8])
     requires { length cells.old ≡ 1024 }
     ensures { Halved cells.old cells.new }
 {
+    // kept: a cell is written while two cells further on in the same slice are read, which no iterator lends at once
     for k in 0..512 {
-        cells[k] = worse(cells[2 * k], cells[2 * k + 1]);
+        cells[k] = cells[2 * k].max(cells[2 * k + 1]);
     }
-    for k in 512..1024 {
-        cells[k] = 0;
-    }
+    cells[512..].fill(0);
 }

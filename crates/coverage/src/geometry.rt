@@ -33,9 +33,9 @@ pub fn step(n: u64) -> u64
 pub fn run_end(cells: &[u8], from: usize) -> usize
     ensures { RunOf cells.now from result }
 {
-    let mut end = from;
-    while end < cells.len() && cells[end] == cells[from] {
-        end += 1;
-    }
-    end.min(cells.len())
+    let Some(first) = cells.get(from) else {
+        return cells.len();
+    };
+    let run = cells[from..].iter().position(|cell| cell != first);
+    run.map_or(cells.len(), |run| from + run)
 }

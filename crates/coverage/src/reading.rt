@@ -11,11 +11,7 @@ impl Levels {
     pub fn level(&self, column: usize) -> u8
         ensures { result ≡ slice_index self.now.cells.items column }
     {
-        if column < self.cells.len() {
-            self.cells[column]
-        } else {
-            0
-        }
+        self.cells.get(column).copied().unwrap_or(0)
     }
 
     // The first number of a column, or the highest of 64 bits where that is lower.

@@ -2,7 +2,7 @@ ghost use Rattle.std.specs.Prelude.{◌≡◌};
 ghost use Rattle.coverage.specs.Shades.{level_of};
 
 // what an instrument's book is at a number: not told, or its mark; each is worse than the one before
-#[derive(Clone, Copy, Debug, PartialEq, Eq)]
+#[derive(Clone, Copy, Debug, PartialEq, Eq, PartialOrd, Ord)]
 pub enum Shade {
     Blank,
     Current,
@@ -15,11 +15,6 @@ impl Shade {
     pub fn level(self) -> u8
         ensures { result ≡ level_of self }
     {
-        match self {
-            Shade::Blank => 0,
-            Shade::Current => 1,
-            Shade::Recovering => 2,
-            Shade::Stale => 3,
-        }
+        self as u8
     }
 }

@@ -33,9 +33,8 @@ impl Band {
         let last = self.since.max(next.saturating_sub(1));
         let low = self.since - self.first;
         let high = last - self.first;
-        let level = self.shade.level();
-        self.shades.note(low, high, level);
-        if level == 1 {
+        self.shades.note(low, high, self.shade.level());
+        if self.shade == Shade::Current {
             self.current += next - self.since;
         }
         self.since = next;

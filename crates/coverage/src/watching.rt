@@ -17,7 +17,7 @@ impl Coverage {
         ensures { IfOk result (λ c. (count c ≡ instruments) × ((q : ℕ) (d : Band) → q < instruments → Clear (band_at c q d) first)) }
     {
         let mut bands = Vec::new(heap);
-        while bands.len() < instruments {
+        for _ in 0..instruments {
             bands.push(Band::new(heap, first)?)?;
         }
         Ok(Coverage { bands })
@@ -29,10 +29,8 @@ impl Coverage {
         ensures beside { Beside self.old self.new slot }
         ensures turned { (d : Band) → slot < count self.old → TurnTaken (band_at self.old slot d) (band_at self.new slot d) from (level_of shade) }
     {
-        if slot >= self.bands.len() {
-            return Err(NoBand { slot });
-        }
-        self.bands[slot].turn(from, shade);
+        let turned = self.bands.get_mut(slot).ok_or(NoBand { slot })?;
+        turned.turn(from, shade);
         Ok(())
     }
 
@@ -44,7 +42,7 @@ impl Coverage {
         ensures passed { (d : Band) → slot < count self.old → Passed (band_at self.old slot d) (band_at self.new slot d) (min (before + 1) (2 ^ 64 - 1)) heard (level_of shade) }
     {
         let next = before.saturating_add(1);
-        if next < heard && shade.level() == 1 {
+        if next < heard && shade == Shade::Current {
             self.turn(slot, next, Shade::Recovering)?;
             self.turn(slot, heard, shade)
         } else {
@@ -58,10 +56,8 @@ impl Coverage {
         ensures beside { Beside self.old self.new slot }
         ensures noted { (d : Band) → slot < count self.old → AdoptionNoted (band_at self.old slot d) (band_at self.new slot d) number }
     {
-        if slot >= self.bands.len() {
-            return Err(NoBand { slot });
-        }
-        self.bands[slot].adopt(number);
+        let adopted = self.bands.get_mut(slot).ok_or(NoBand { slot })?;
+        adopted.adopt(number);
         Ok(())
     }
 
@@ -71,8 +67,8 @@ impl Coverage {
         ensures turned { (q : ℕ) (d : Band) → q < count self.old → TurnTaken (band_at self.old q d) (band_at self.new q d) (min (last + 1) (2 ^ 64 - 1)) 0 }
     {
         let next = last.saturating_add(1);
-        for slot in 0..self.bands.len() {
-            let _ = self.turn(slot, next, Shade::Blank);
+        for band in self.bands.iter_mut() {
+            band.turn(next, Shade::Blank);
         }
     }
 }

@@ -2,5 +2,6 @@ use Rattle.std.proofs.Common.{arith}
 use Rattle.coverage.proofs.Ends.{turned_more}
 use Rattle.coverage.proofs.coverage.Coverage.finish.Goals as goal
 
-pub loop-slot-preserved : goal.loop-slot-preserved
-loop-slot-preserved c = turned_more _ _ _ _ _ (omega (arith, c.loop-slot.invariant.number)) c.turn.ensures.beside c.turn.ensures.turned c.loop-slot.invariant
+pub loop-band-preserved : goal.loop-band-preserved
+loop-band-preserved c =
+    turned_more _ c.loop-band.band-items c.loop-band.band-index _ c.band-item.result _ (omega (arith, c.loop-band.invariant.number)) c.turn.ensures c.loop-band.invariant
