@@ -2,4 +2,4 @@ mod Fills
 mod Columns
 mod Rounds
 mod Ends
-mod Runs
+mod Alike

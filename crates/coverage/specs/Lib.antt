@@ -6,4 +6,5 @@ pub mod Turns
 pub mod Held
 pub mod Changes
 pub mod Geometry
+pub mod Runs
 pub mod Bands

@@ -8,6 +8,7 @@ pub mod geometry;
 pub mod levels;
 pub mod noting;
 pub mod reading;
+pub mod runs;
 pub mod shade;
 pub mod turning;
 pub mod watching;

@@ -1,6 +1,6 @@
 #![tactic(auto)]
 
-use anyhow::anyhow;
+use anyhow::{Context, anyhow};
 use coverage::coverage::Coverage;
 use coverage::shade::Shade;
 use coverage_svg::drawing::draw;
@@ -12,10 +12,8 @@ const FIRST_INSTRUMENT: u64 = 200000000101;
 
 // The next word on the command line, as a number.
 fn number(word: Option<String>) -> anyhow::Result<u64> {
-    match word {
-        Some(text) => Ok(text.as_str().parse::<u64>()?),
-        None => Err(anyhow!("usage: coverage_picture INSTRUMENTS FIRST LAST < TURNS")),
-    }
+    let word = word.context("usage: coverage_picture INSTRUMENTS FIRST LAST < TURNS")?;
+    Ok(word.as_str().parse::<u64>()?)
 }
 
 // Tells the coverage one line: `SLOT NUMBER WORD`, with the word current, recovering, stale or adopted.
@@ -33,10 +31,7 @@ fn tell(coverage: &mut Coverage, line: &str) -> anyhow::Result<()> {
         "adopted" => coverage.adopt(slot, at),
         _ => return Err(anyhow!("a word is current, recovering, stale or adopted")),
     };
-    match told {
-        Ok(()) => Ok(()),
-        Err(_) => Err(anyhow!("there is no such slot")),
-    }
+    told.map_err(|_| anyhow!("there is no such slot"))
 }
 
 // Draws what standard input tells.
@@ -52,8 +47,8 @@ fn run(rt: &HostRuntime) -> anyhow::Result<()> {
     }
     coverage.finish(last);
     let mut instruments = Vec::new(rt.alloc());
-    for slot in 0..64u64 {
-        instruments.push(FIRST_INSTRUMENT + slot)?;
+    for instrument in FIRST_INSTRUMENT..FIRST_INSTRUMENT + 64 {
+        instruments.push(instrument)?;
     }
     let mut picture = String::new(rt.alloc());
     draw(&coverage, instruments.as_slice(), &mut picture)?;

@@ -1,4 +1,5 @@
 use crate::figures::Grouped;
+use crate::sizes::Span;
 use std::fmt;
 use std::fmt::Write;
 
@@ -35,9 +36,9 @@ pub(crate) fn write_frame(out: &mut String, high: u64) -> fmt::Result {
 }
 
 // The title, and what a column and the figures at the right say.
-pub(crate) fn write_heading(out: &mut String, first: u64, numbers: u64, width: u64) -> fmt::Result {
-    let from = Grouped(first);
-    let last = Grouped(first.saturating_add(numbers.saturating_sub(1)));
+pub(crate) fn write_heading(out: &mut String, span: Span, width: u64) -> fmt::Result {
+    let from = Grouped(span.first);
+    let last = Grouped(span.first.saturating_add(span.numbers.saturating_sub(1)));
     let width = Grouped(width);
     write!(
         out,

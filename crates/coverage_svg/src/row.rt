@@ -4,27 +4,32 @@ use coverage::band::Band;
 use coverage::shade::Shade;
 use std::fmt;
 
-// The box of some columns, from the left edge to the right one and of a height.
-fn write_box(out: &mut String, left: Tenths, right: Tenths, top: u64, height: u64) -> fmt::Result {
+// where boxes of one height stand
+#[derive(Clone, Copy)]
+struct Strip {
+    top: u64,
+    height: u64,
+}
+
+// The box of some columns, from the left edge to the right one.
+fn write_box(out: &mut String, left: Tenths, right: Tenths, strip: Strip) -> fmt::Result {
+    let Strip { top, height } = strip;
     write!(out, "M{left} {top}H{right}")?;
     write!(out, "v{height}H{left}z")?;
     Ok(())
 }
 
 // The columns of one shade, as boxes of one height.
-fn write_shade(out: &mut String, band: &Band, shade: Shade, top: u64, height: u64) -> fmt::Result {
+fn write_shade(out: &mut String, band: &Band, shade: Shade, strip: Strip) -> fmt::Result {
     let numbers = band.numbers();
     let columns = band.shades();
-    let level = shade.level();
-    let mut column: usize = 0;
-    for _ in 0..1024 {
-        let end = columns.run_end(column);
-        if columns.level(column) == level {
-            let left = place(columns.edge(column), numbers);
-            let right = place(columns.edge(end), numbers);
-            write_box(out, left, right, top, height)?;
+    write!(out, "<path class=\"{shade}\" d=\"")?;
+    for run in columns.runs() {
+        if run.level == shade.level() {
+            let left = place(columns.edge(run.from), numbers);
+            let right = place(columns.edge(run.end), numbers);
+            write_box(out, left, right, strip)?;
         }
-        column = end;
     }
     writeln!(out, "\"/>")?;
     Ok(())
@@ -36,10 +41,12 @@ fn write_adoptions(out: &mut String, band: &Band, top: u64, tick: u64) -> fmt::R
     let columns = band.adoptions();
     let half = tick / 2;
     write!(out, "<path class=\"adopted\" d=\"")?;
-    for column in 0..1024usize {
-        if columns.level(column) > 0 {
-            let at = place(columns.edge(column), numbers);
-            write!(out, "M{at} {top}l-{half} -{tick}h{tick}z")?;
+    for run in columns.runs() {
+        if run.level > 0 {
+            for column in run.from..run.end {
+                let at = place(columns.edge(column), numbers);
+                write!(out, "M{at} {top}l-{half} -{tick}h{tick}z")?;
+            }
         }
     }
     writeln!(out, "\"/>")?;
@@ -50,13 +57,14 @@ fn write_adoptions(out: &mut String, band: &Band, top: u64, tick: u64) -> fmt::R
 fn write_band(out: &mut String, band: &Band, rows: Rows, top: u64) -> fmt::Result {
     let height = rows.band;
     let half = height / 2;
-    let middle = top.saturating_add(height - half);
-    write!(out, "<path class=\"stale\" d=\"")?;
-    write_shade(out, band, Shade::Stale, top, height)?;
-    write!(out, "<path class=\"recovering\" d=\"")?;
-    write_shade(out, band, Shade::Recovering, middle, half)?;
-    write!(out, "<path class=\"current\" d=\"")?;
-    write_shade(out, band, Shade::Current, top, height)?;
+    let full = Strip { top, height };
+    let lower = Strip {
+        top: top.saturating_add(height - half),
+        height: half,
+    };
+    write_shade(out, band, Shade::Stale, full)?;
+    write_shade(out, band, Shade::Recovering, lower)?;
+    write_shade(out, band, Shade::Current, full)?;
     write_adoptions(out, band, top, rows.tick)
 }
 

@@ -2,7 +2,7 @@ use Rattle.std.proofs.Common.{◌≡◌, ◌≢◌, ℕ, ◌+◌, ◌-◌, ◌<�
 use Rattle.std.specs.Option.{option_map_or}
 use Rattle.std.proofs.lemmas.List.{take_all}
 use Rattle.std.proofs.lemmas.Iterator.{YieldsList-from_slice, IsFirst-from_position}
-use Rattle.coverage.proofs.Runs.{run_of}
+use Rattle.coverage.proofs.Alike.{run_of}
 use Rattle.coverage.proofs.geometry.run_end.Goals as goal
 
 pub returns : goal.returns
