@@ -1,7 +1,8 @@
 -- The numbers of words that come one by one: those so far, and those of the words that are left.
 use Rattle.std.proofs.Common.{◌≡◌, ℕ, List, [], ◌∷◌, ◌++◌, Some, None, Option, sym, refl, ap, ◌∙◌, subst, append_assoc, append-nil}
 use Rattle.std.proofs.lemmas.Iterator.{YieldsList}
-use Rattle.commands.specs.Decimal.{and_then, decimal_of, decimals}
+use Rattle.sheet_text.specs.Text.{and_then}
+use Rattle.commands.specs.Decimal.{decimal_of, decimals}
 
 -- numbers, and those behind them, if there are such
 abbrev pub onto_all : List ℕ → Option (List ℕ) → Option (List ℕ)

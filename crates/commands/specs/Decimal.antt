@@ -1,22 +1,11 @@
 -- Numbers in base ten, of at most 64 bits.
-use Rattle.std.specs.Prelude.{◌≡◌, ℕ, ◌+◌, ◌-◌, ◌*◌, ◌^◌, cond, ◌&&◌, List, [], ◌∷◌, length, Some, None, Ok, Err, Option, Result, MatchOption, ◌==◌, nat_le, nat_lt}
+use Rattle.std.specs.Prelude.{◌≡◌, ℕ, ◌-◌, ◌^◌, cond, List, [], ◌∷◌, length, Some, None, Ok, Err, Option, Result, MatchOption, ◌==◌, nat_le}
 use Rattle.std.specs.List.{slice_split}
-
-abbrev pub and_then : {A B : Type 0} → Option A → (A → Option B) → Option B
-and_then None f = None
-and_then (Some x) f = f x
-
--- one figure more behind n
-abbrev pub figure : ℕ → ℕ → Option ℕ
-figure n d = cond (nat_le 48 d && nat_le d 57) (cond (nat_lt (n * 10 + (d - 48)) (2 ^ 64)) (Some (n * 10 + (d - 48))) None) None
-
-abbrev pub figures : ℕ → List ℕ → Option ℕ
-figures n [] = Some n
-figures n (d ∷ ds) = and_then (figure n d) (λ m. figures m ds)
+use Rattle.sheet_text.specs.Text.{and_then, figures_from, up_to_most}
 
 -- the number that a word stands for: at least one figure
 abbrev pub decimal_of : List ℕ → Option ℕ
-decimal_of word = cond (length word == 0) None (figures 0 word)
+decimal_of word = cond (length word == 0) None (and_then (figures_from 0 word) (up_to_most (2 ^ 64 - 1)))
 
 abbrev pub up_to : ℕ → Option ℕ → Option ℕ
 up_to most None = None

@@ -2,12 +2,12 @@
 use Rattle.std.specs.Prelude.{ℕ, cond, List, Some, None, codes, Option}
 use Rattle.std.specs.Option.{option_map}
 use Rattle.std.specs.Str.{bytes_eq}
-use Rattle.sheet_text.specs.Text.{cut_at}
+use Rattle.sheet_text.specs.Text.{cut_at, and_then}
 use Rattle.commands.specs.declared.verb.Verb.{Verb}
 use Rattle.commands.specs.declared.verb.Verb.TheVariants as verbs
 use Rattle.commands.specs.declared.command.Command.{Command}
 use Rattle.commands.specs.declared.command.Command.TheVariants as commands
-use Rattle.commands.specs.Decimal.{and_then, decimal_of, up_to}
+use Rattle.commands.specs.Decimal.{decimal_of, up_to}
 use Rattle.commands.specs.Verbs.{lone_verb, verb_of}
 
 -- a command, with its words as bytes

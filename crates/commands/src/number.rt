@@ -1,18 +1,9 @@
 ghost use Rattle.std.specs.Prelude.{◌≡◌, IfOk};
 ghost use Rattle.std.specs.Option.{option_map};
-ghost use Rattle.commands.specs.Decimal.{figure, decimal_of, numbers_of, ReadAs};
+ghost use Rattle.commands.specs.Decimal.{decimal_of, numbers_of, ReadAs};
 
+use sheet_text::text::figures;
 use std::alloc::{AllocError, Global};
-
-// One figure more behind n.
-fn one_figure(n: u64, d: u8) -> Option<u64>
-    ensures { result ≡ figure n d }
-{
-    if !d.is_ascii_digit() {
-        return None;
-    }
-    n.checked_mul(10)?.checked_add(u64::from(d - b'0'))
-}
 
 // The number that a word of figures stands for, where it has 64 bits.
 pub fn decimal(word: &[u8]) -> Option<u64>
@@ -21,11 +12,7 @@ pub fn decimal(word: &[u8]) -> Option<u64>
     if word.is_empty() {
         return None;
     }
-    let mut n = 0;
-    for d in word {
-        n = one_figure(n, *d)?;
-    }
-    Some(n)
+    figures(u64::MAX, word)
 }
 
 // The number that a word of figures stands for, where a type holds it.

@@ -1,7 +1,7 @@
 -- An address and port as they are written: four figures with points, a colon, the port.
 use Rattle.std.specs.Prelude.{ℕ, ◌+◌, ◌*◌, List, Some, Option}
-use Rattle.sheet_text.specs.Text.{cut_at}
-use Rattle.commands.specs.Decimal.{and_then, decimal_of, up_to}
+use Rattle.sheet_text.specs.Text.{cut_at, and_then}
+use Rattle.commands.specs.Decimal.{decimal_of, up_to}
 use Rattle.capture.specs.declared.endpoint.Endpoint.{Endpoint}
 
 abbrev pub byte_of : List ℕ → Option ℕ

@@ -1,5 +1,5 @@
 use Rattle.std.proofs.Common.{◌≡◌, codes, rules}
-use Rattle.commands.proofs.Words.{spelled}
+use Rattle.sheet_text.proofs.Words.{spelled}
 use Rattle.commands.proofs.verb.lone_verb.Goals as goal
 
 pub returns-in-shelfsum : goal.returns-in-shelfsum

@@ -1,5 +1,5 @@
 use Rattle.std.proofs.Common.{◌≡◌, codes, rules}
-use Rattle.commands.proofs.Words.{spelled}
+use Rattle.sheet_text.proofs.Words.{spelled}
 use Rattle.commands.proofs.verb.worded_verb.Goals as goal
 
 pub returns-in-offers : goal.returns-in-offers

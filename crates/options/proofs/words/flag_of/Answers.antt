@@ -1,5 +1,5 @@
 use Rattle.std.proofs.Common.{◌≡◌, codes, rules}
-use Rattle.commands.proofs.Words.{spelled}
+use Rattle.sheet_text.proofs.Words.{spelled}
 use Rattle.options.proofs.words.flag_of.Goals as goal
 
 pub returns-in-45 : goal.returns-in-45

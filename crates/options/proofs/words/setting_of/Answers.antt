@@ -1,5 +1,6 @@
 use Rattle.std.proofs.Common.{◌≡◌, ℕ, List, length, get_or, codes, ap, arith, rules}
-use Rattle.commands.proofs.Words.{spelled, lookup_none}
+use Rattle.sheet_text.proofs.Words.{spelled}
+use Rattle.commands.proofs.Words.{lookup_none}
 use Rattle.options.specs.Words.{settings}
 use Rattle.options.proofs.words.setting_of.Goals as goal
 
