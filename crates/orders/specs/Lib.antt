@@ -1,4 +1,5 @@
 pub mod Book
+pub mod Side
 pub mod Edits
 pub mod Staged
 pub mod Kind

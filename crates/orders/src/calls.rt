@@ -1,44 +1,24 @@
 ghost use Rattle.std.specs.Prelude.{◌≡◌, ◌+◌, ◌*◌, ◌<◌, ◌&&◌, length, if◌then◌else◌};
 ghost use Rattle.message.specs.Views.{meant};
 ghost use Rattle.orders.specs.Book.{is_side, side_of};
-ghost use Rattle.orders.specs.Edits.{taken, fits_order, fits_mass};
 ghost use Rattle.orders.specs.Kind.{setup, fits_book, after_book};
 ghost use Rattle.orders.specs.Rows.{PutsBook, book_at};
 
 use crate::rows::Rows;
-use crate::sides::{fits_delete, fits_mass, fits_order, row_of};
+use crate::side_edit::SideEdit;
+use crate::sides::row_of;
 use layout::kinds::Actions;
 use message::fields::{delete_fields, mass_fields, order_fields, stat_fields};
 use message::message::Message;
-use message::values::{DeleteFields, MassFields, OrderFields};
 
 impl<'t> Rows<'t> {
-    fn order_fits(&self, a: Actions, book: usize, f: &OrderFields) -> bool
+    // Whether an edit fits the side of a book that it is of.
+    fn edit_fits<E: SideEdit>(&self, a: Actions, book: usize, e: &E) -> bool
         requires { 2 * book + 1 < self.now.count }
-        ensures { result ≡ (is_side f.now.side && fits_order a self.now.depth (length (side_of (book_at self.now book) f.now.side)) f.now) }
+        ensures { result ≡ (is_side (E.side_number e.now) && E.suits a self.now.depth (length (side_of (book_at self.now book) (E.side_number e.now))) e.now) }
     {
-        match row_of(book, f.side) {
-            Some(r) => fits_order(a, self.depth, self.len(r), f),
-            None => false,
-        }
-    }
-
-    fn delete_fits(&self, book: usize, f: &DeleteFields) -> bool
-        requires { 2 * book + 1 < self.now.count }
-        ensures { result ≡ (is_side f.now.side && taken (length (side_of (book_at self.now book) f.now.side)) f.now.position) }
-    {
-        match row_of(book, f.side) {
-            Some(r) => fits_delete(self.len(r), f.position),
-            None => false,
-        }
-    }
-
-    fn mass_fits(&self, a: Actions, book: usize, f: &MassFields) -> bool
-        requires { 2 * book + 1 < self.now.count }
-        ensures { result ≡ (is_side f.now.side && fits_mass a (length (side_of (book_at self.now book) f.now.side)) f.now) }
-    {
-        match row_of(book, f.side) {
-            Some(r) => fits_mass(a, self.len(r), f),
+        match row_of(book, e.side()) {
+            Some(r) => e.fits(a, self.depth, self.len(r)),
             None => false,
         }
     }
@@ -50,21 +30,18 @@ impl<'t> Rows<'t> {
     {
         match *m {
             Message::Order(l, part) => match order_fields(l, part) {
-                Some(f) => self.order_fits(a, book, &f),
+                Some(f) => self.edit_fits(a, book, &f),
                 None => false,
             },
             Message::Delete(l, part) => match delete_fields(l, part) {
-                Some(f) => self.delete_fits(book, &f),
+                Some(f) => self.edit_fits(a, book, &f),
                 None => false,
             },
             Message::Mass(l, part) => match mass_fields(l, part) {
-                Some(f) => self.mass_fits(a, book, &f),
+                Some(f) => self.edit_fits(a, book, &f),
                 None => false,
             },
-            Message::Stat(l, part) => match stat_fields(l, part) {
-                Some(_) => true,
-                None => false,
-            },
+            Message::Stat(l, part) => stat_fields(l, part).is_some(),
             Message::Empty(_, _) => true,
             Message::Header(_, _) => true,
             Message::Entries(_, _) => true,
@@ -80,25 +57,22 @@ impl<'t> Rows<'t> {
     {
         match *m {
             Message::Order(l, part) => match order_fields(l, part) {
-                Some(f) => self.put_in(a, book, &f),
+                Some(f) => self.edit_in(a, book, &f),
                 None => false,
             },
             Message::Delete(l, part) => match delete_fields(l, part) {
-                Some(f) => self.delete_in(book, &f),
+                Some(f) => self.edit_in(a, book, &f),
                 None => false,
             },
             Message::Mass(l, part) => match mass_fields(l, part) {
-                Some(f) => self.mass_in(a, book, &f),
+                Some(f) => self.edit_in(a, book, &f),
                 None => false,
             },
             Message::Empty(_, _) => {
                 self.clear_book(book);
                 true
             }
-            Message::Stat(l, part) => match stat_fields(l, part) {
-                Some(_) => true,
-                None => false,
-            },
+            Message::Stat(l, part) => stat_fields(l, part).is_some(),
             Message::Header(_, _) => true,
             Message::Entries(_, _) => true,
             Message::Other(_) => true,

@@ -7,6 +7,7 @@ ghost use Rattle.orders.specs.Model.{setup_of, model_of};
 ghost use Rattle.orders.specs.Rows.{book_at};
 
 use crate::order_store::OrderStore;
+use crate::side::Side;
 use message::values::EntryFields;
 
 // An entry of a snapshot stands at its side's next position while one is owed.
@@ -14,10 +15,10 @@ impl<'t> OrderStore<'t> {
     pub(crate) fn fits_entry(&self, e: &EntryFields) -> bool
         ensures { result ≡ fits_entry (book_at self.now.rows 0) self.now.owed e.now }
     {
-        match e.side {
-            48 => e.position == self.rows.len(0) as u64 + 1 && 0 < self.owed.bids,
-            49 => e.position == self.rows.len(1) as u64 + 1 && 0 < self.owed.offers,
-            _ => false,
+        match Side::try_from(e.side) {
+            Ok(Side::Bid) => e.position == self.rows.len(0) as u64 + 1 && 0 < self.owed.bids,
+            Ok(Side::Offer) => e.position == self.rows.len(1) as u64 + 1 && 0 < self.owed.offers,
+            Err(_) => false,
         }
     }
 

@@ -12,4 +12,5 @@ pub mod order_store;
 pub mod rows;
 pub mod shows;
 pub mod side;
+pub mod side_edit;
 pub mod sides;

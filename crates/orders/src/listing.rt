@@ -4,8 +4,8 @@ ghost use Rattle.orders.specs.Shown.{shown};
 
 use crate::order_store::OrderStore;
 use crate::rows::Rows;
-use crate::shows::row_at;
 use crate::side::Side;
+use crate::sides::row_at;
 use message::values::Order;
 
 impl<'t> Rows<'t> {

@@ -1,21 +1,12 @@
-ghost use Rattle.std.specs.Prelude.{◌≡◌, ◌+◌, ◌*◌, ◌<◌, length};
+ghost use Rattle.std.specs.Prelude.{◌≡◌, ◌<◌, length};
 ghost use Rattle.orders.specs.Rows.{row};
-ghost use Rattle.orders.specs.Shown.{of_side, at_position, shown};
+ghost use Rattle.orders.specs.Shown.{at_position, shown};
 
 use crate::order_store::OrderStore;
 use crate::rows::Rows;
 use crate::side::Side;
+use crate::sides::row_at;
 use message::values::Order;
-
-pub(crate) fn row_at(book: usize, side: Side) -> usize
-    requires { book < 65 }
-    ensures { result ≡ of_side side (2 * book) (2 * book + 1) }
-{
-    match side {
-        Side::Bid => 2 * book,
-        Side::Offer => 2 * book + 1,
-    }
-}
 
 impl<'t> Rows<'t> {
     // The order at a position of a row.

@@ -1,4 +1,5 @@
 // A list by position at the front of a lent slice: its first n elements, at positions 1 to n.
+// kept: a number beside the slice, since the memory is the caller's, and what lies behind the n elements is room
 #![tactic(auto)]
 
 ghost use Rattle.std.specs.Prelude.{◌≡◌, ◌+◌, ◌-◌, ◌<◌, ◌≤◌, true, false, ◌∷◌, ◌++◌, length, take, drop};

@@ -8,13 +8,6 @@ use std::test::Fail;
 use store::fault::StoreFault;
 use store::store::Store;
 
-const NO_ORDER: Order = Order {
-    price: 0,
-    size: 0,
-    oid: 0,
-    firm: 0,
-};
-
 fn one(offset: u16) -> Spot {
     Spot {
         offset,
@@ -86,18 +79,12 @@ fn entry(s: &mut OrderStore, side: u8, at: u8, oid: u8) -> Result<(), StoreFault
 
 // Whether slot 0 shows just these orders on a side.
 fn shows(s: &OrderStore, side: Side, oids: &[u64]) -> bool {
-    let n = oids.len();
-    if s.count(0, side) != n {
+    if s.count(0, side) != oids.len() {
         return false;
     }
-    for k in 0..n {
-        match s.order(0, side, k + 1) {
-            Some(x) => {
-                if x.oid != oids[k] {
-                    return false;
-                }
-            }
-            None => return false,
+    for (k, oid) in oids.iter().enumerate() {
+        if !s.order(0, side, k + 1).is_some_and(|x| x.oid == *oid) {
+            return false;
         }
     }
     true
@@ -116,7 +103,7 @@ fn worked(s: &mut OrderStore) -> Result<(), StoreFault> {
 
 #[test]
 fn orders_move_by_position(rt: HostRuntime) -> Result<(), Fail> {
-    let mut table = [NO_ORDER; 64];
+    let mut table = [Order::default(); 64];
     let mut s = OrderStore::open(actions(), 8, &mut table);
     order(&mut s, 0, 48, 1, 1)?;
     order(&mut s, 0, 48, 2, 2)?;
@@ -132,7 +119,7 @@ fn orders_move_by_position(rt: HostRuntime) -> Result<(), Fail> {
 
 #[test]
 fn swept_bids_leave_the_last(rt: HostRuntime) -> Result<(), Fail> {
-    let mut table = [NO_ORDER; 64];
+    let mut table = [Order::default(); 64];
     let mut s = OrderStore::open(actions(), 8, &mut table);
     worked(&mut s)?;
     mass(&mut s, 4, 48, 3)?;
@@ -143,7 +130,7 @@ fn swept_bids_leave_the_last(rt: HostRuntime) -> Result<(), Fail> {
 
 #[test]
 fn cancelled_bids_leave_the_offers(rt: HostRuntime) -> Result<(), Fail> {
-    let mut table = [NO_ORDER; 64];
+    let mut table = [Order::default(); 64];
     let mut s = OrderStore::open(actions(), 8, &mut table);
     worked(&mut s)?;
     mass(&mut s, 3, 48, 1)?;
@@ -154,7 +141,7 @@ fn cancelled_bids_leave_the_offers(rt: HostRuntime) -> Result<(), Fail> {
 
 #[test]
 fn a_book_is_adopted_once_whole(rt: HostRuntime) -> Result<(), Fail> {
-    let mut table = [NO_ORDER; 64];
+    let mut table = [Order::default(); 64];
     let mut s = OrderStore::open(actions(), 8, &mut table);
     s.stage(&HeaderFields {
         last: 9,
