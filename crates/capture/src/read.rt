@@ -16,6 +16,7 @@ pub(crate) fn four(order: ByteOrder, bytes: &[u8], at: usize) -> u32
 }
 
 // The number of two bytes at `at`, the highest byte first.
+// kept: a number of another type, and of these none comes with the lowest byte first
 pub(crate) fn two(bytes: &[u8], at: usize) -> u16
     requires { at + 2 ≤ length bytes.now }
     ensures { result ≡ big_at bytes.now at 2 }

@@ -12,6 +12,7 @@ pub fn find<T, F: Fn(&T) -> bool>(items: &[T], last: usize, passes: F) -> Option
             return Some(last);
         }
     }
+    // kept: split_last in place of rposition, whose clauses on a caller's test the check did not bring to the items of a slice
     let mut rest = items;
     while let Some((item, front)) = rest.split_last() {
         if passes(item) {

@@ -18,6 +18,7 @@ impl Spans {
     }
 
     // What `n` is to the numbers of the spans, by its place.
+    // kept: place and number apart, since a type of both would lend out the spans that entering the number changes
     pub(crate) fn seen_at(&self, p: usize, n: u32) -> Seen
         requires within { p ≤ vec_len self.now.list }
         requires before { Clear n (take p self.now.list.items) }
