@@ -1,5 +1,5 @@
 -- Cells whose lower half is written one by one, and whose upper half is filled.
-use Rattle.std.proofs.Common.{◌≡◌, ℕ, ◌+◌, ◌-◌, ◌<◌, ◌≤◌, List, length, take, replicate, get_or, ap, ◌∙◌, subst, arith}
+use Rattle.std.proofs.Common.{◌≡◌, ℕ, ◌+◌, ◌-◌, List, length, take, replicate, get_or, ap, ◌∙◌, subst, arith}
 use Rattle.std.proofs.lemmas.List.{get_or-replicate, get_or_append_left, get_or-take, get_or-append-add, length-take-le, length-replicate}
 use borrow.Rule.Slice.PartMut.{put_mid}
 use Rattle.coverage.specs.Cells.{Filled, Halved, higher_of_two}

@@ -1,4 +1,4 @@
-use Rattle.std.proofs.Common.{◌≡◌, ℕ, ◌<◌, ◌≤◌, subst, ap, arith, rules, MatchResult}
+use Rattle.std.proofs.Common.{◌≡◌, ℕ, ◌<◌, ◌≤◌, subst, ap, rules, MatchResult}
 use Rattle.coverage.specs.declared.shade.Shade.TheVariants.{Current}
 use Rattle.coverage.specs.Bands.{band_at}
 use Rattle.coverage.specs.Changes.{Passed}
