@@ -3,6 +3,7 @@ ghost use Rattle.std.specs.Prelude.{◌≡◌, ℕ, ◌*◌, ◌<◌, ◌≤◌,
 use message::values::Order;
 
 // rows of orders in a lent table: row r has `lens[r]` orders, from place r * `depth` of the table on
+// kept: lengths beside a lent table, since a store takes no memory of its own
 #[derive(Drop)]
 pub struct Rows<'t> {
     pub table: &'t mut [Order],
