@@ -1,73 +1,72 @@
 use crate::calls::Calls;
-use crate::feeding::perform;
+use crate::feeding::Feeding;
 use commands::digest::digest;
+use message::values::Order;
 use orders::order_store::OrderStore;
 use orders::side::Side;
-use recovery::answers::Sign;
-use replay::desk::Desk;
+use recovery::answers::Standing;
 
-// One word more in a digest.
-fn mix(hash: u64, word: u64) -> u64 {
-    (hash ^ word).wrapping_mul(1099511628211)
-}
+// the words of a digest so far
+#[derive(Drop)]
+struct Mixed(u64);
 
-// How the books of the watched instruments stand, in a digest.
-fn mix_marks(desk: &Desk, store: &OrderStore, shelf: &[u8], ids: &[u64], start: u64) -> u64 {
-    let mut hash = start;
-    for id in ids {
-        if let Ok(standing) = desk.question(store, shelf, *id) {
-            let sign: u64 = match standing.sign {
-                Sign::Stale => 0,
-                Sign::Recovering => 1,
-                Sign::Current => 2,
-            };
-            hash = mix(mix(mix(hash, sign), standing.number), standing.heard);
+impl Mixed {
+    // One word more.
+    fn word(&mut self, word: u64) {
+        self.0 = (self.0 ^ word).wrapping_mul(1099511628211);
+    }
+
+    // How a book stands.
+    fn standing(&mut self, standing: Standing) {
+        self.word(standing.sign as u64);
+        self.word(standing.number);
+        self.word(standing.heard);
+    }
+
+    // The orders of a side.
+    fn side(&mut self, orders: &[Order]) {
+        self.word(orders.len() as u64);
+        for o in orders {
+            self.word(o.price.cast_unsigned());
+            self.word(o.size);
+            self.word(o.oid);
+            self.word(o.firm);
         }
     }
-    hash
-}
 
-// The orders of a side, in a digest.
-fn mix_side(store: &OrderStore, slot: usize, side: Side, start: u64) -> u64 {
-    let n = store.count(slot, side);
-    let mut hash = mix(start, n as u64);
-    for p in 0..n {
-        if let Some(o) = store.order(slot, side, p + 1) {
-            hash = mix(hash, o.price.cast_unsigned());
-            hash = mix(mix(mix(hash, o.size), o.oid), o.firm);
+    // The books of the first n slots.
+    fn books(&mut self, store: &OrderStore, n: usize) {
+        for slot in 0..n {
+            self.side(store.side(slot, Side::Bid));
+            self.side(store.side(slot, Side::Offer));
         }
     }
-    hash
 }
 
-// The books of the first n slots, in a digest.
-fn mix_books(store: &OrderStore, n: usize, start: u64) -> u64 {
-    let mut hash = start;
-    for slot in 0..n {
-        hash = mix_side(store, slot, Side::Bid, hash);
-        hash = mix_side(store, slot, Side::Offer, hash);
-    }
-    hash
-}
-
-// A digest of every answer and mark, of the books once in 64 calls and at the end, and of the shelf.
-pub fn digest_all(
-    desk: &mut Desk,
-    store: &mut OrderStore,
-    shelf: &mut [u8],
-    input: &[u8],
-    ids: &[u64],
-) -> u64 {
-    let mut hash: u64 = 0;
-    let mut count: u64 = 0;
-    let mut calls = Calls { rest: input };
-    while let Some((kind, bytes)) = calls.next() {
-        hash = mix(hash, perform(desk, store, shelf, kind, bytes));
-        hash = mix_marks(desk, store, shelf, ids, hash);
-        count = count.saturating_add(1);
-        if count % 64 == 0 {
-            hash = mix_books(store, ids.len(), hash);
+impl<'f, 't> Feeding<'f, OrderStore<'t>> {
+    // How the books of these instruments stand.
+    fn mix_marks(&self, mixed: &mut Mixed, ids: &[u64]) {
+        for id in ids {
+            if let Ok(standing) = self.desk.question(self.store, self.shelf, *id) {
+                mixed.standing(standing);
+            }
         }
     }
-    mix(mix_books(store, ids.len(), hash), digest(shelf))
+
+    // A digest of every answer and mark, of the books once in 64 calls and at the end, and of the shelf.
+    pub fn digest(&mut self, input: &[u8], ids: &[u64]) -> u64 {
+        let mut mixed = Mixed(0);
+        let mut count: u64 = 0;
+        for entry in (Calls { rest: input }) {
+            mixed.word(self.perform(entry));
+            self.mix_marks(&mut mixed, ids);
+            count = count.saturating_add(1);
+            if count % 64 == 0 {
+                mixed.books(self.store, ids.len());
+            }
+        }
+        mixed.books(self.store, ids.len());
+        mixed.word(digest(self.shelf));
+        mixed.0
+    }
 }

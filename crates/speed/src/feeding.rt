@@ -1,4 +1,4 @@
-use crate::calls::{Calls, poke};
+use crate::calls::{Calls, Entry, poke};
 use layout::sheet::Sheet;
 use message::fields::security_of;
 use packet::checked::Checked;
@@ -9,6 +9,13 @@ use replay::call::{Answer, Call};
 use replay::desk::Desk;
 use store::store::Store;
 
+// a receiver, and what its calls are lent: the store and the shelf
+pub struct Feeding<'f, S> {
+    pub desk: Desk,
+    pub store: &'f mut S,
+    pub shelf: &'f mut [u8],
+}
+
 // A refusal as a number.
 fn refused(fault: StreamFault) -> u64 {
     let refusal = Refusal::from(fault);
@@ -16,6 +23,7 @@ fn refused(fault: StreamFault) -> u64 {
 }
 
 // An answer as a number.
+// kept: the sum and the digest are made of numbers, which an enum of codes would only repeat
 fn code(answer: Answer) -> u64 {
     match answer {
         Answer::Taken | Answer::Joined | Answer::Left => 1000,
@@ -26,48 +34,32 @@ fn code(answer: Answer) -> u64 {
     }
 }
 
-// The call of that kind, where it is one of the receiver's.
-fn call_of<'a>(kind: u8, bytes: &'a [u8]) -> Option<Call<'a>> {
-    match kind {
-        0 => Some(Call::Incremental(bytes)),
-        1 => Some(Call::Snapshot(bytes)),
-        3 => Some(Call::Join),
-        4 => Some(Call::Leave),
-        _ => None,
-    }
-}
-
-// Performs a call of that kind; its answer as a number.
-pub fn perform<S: Store>(
-    desk: &mut Desk,
-    store: &mut S,
-    shelf: &mut [u8],
-    kind: u8,
-    bytes: &[u8],
-) -> u64 {
-    match call_of(kind, bytes) {
-        Some(call) => code(desk.perform(store, shelf, call)),
-        None => {
-            poke(shelf, bytes);
-            0
+impl<'f, S: Store> Feeding<'f, S> {
+    // Does what an entry says; the answer as a number.
+    pub fn perform(&mut self, entry: Entry) -> u64 {
+        match entry {
+            Entry::Call(call) => code(self.desk.perform(self.store, self.shelf, call)),
+            Entry::Poke(bytes) => {
+                poke(self.shelf, bytes);
+                0
+            }
         }
     }
-}
 
-// The sum of all answers.
-pub fn feed<S: Store>(desk: &mut Desk, store: &mut S, shelf: &mut [u8], input: &[u8]) -> u64 {
-    let mut sum: u64 = 0;
-    let mut calls = Calls { rest: input };
-    while let Some((kind, bytes)) = calls.next() {
-        sum = sum.wrapping_add(perform(desk, store, shelf, kind, bytes));
+    // The sum of all answers.
+    pub fn feed(&mut self, input: &[u8]) -> u64 {
+        let mut sum: u64 = 0;
+        for entry in (Calls { rest: input }) {
+            sum = sum.wrapping_add(self.perform(entry));
+        }
+        sum
     }
-    sum
 }
 
-// The sum of the instruments of a packet's messages; 0 where it breaks a rule.
-fn walk_packet(sheet: &Sheet, bytes: &[u8]) -> u64 {
-    if let Err(_) = check(sheet, bytes) {
-        return 0;
+// The sum of the instruments of a packet's messages, where it keeps the rules.
+fn walk_packet(sheet: &Sheet, bytes: &[u8]) -> Option<u64> {
+    if check(sheet, bytes).is_err() {
+        return None;
     }
     let mut sum: u64 = 0;
     let mut walk = Checked::new(sheet, bytes).walk();
@@ -76,16 +68,17 @@ fn walk_packet(sheet: &Sheet, bytes: &[u8]) -> u64 {
             sum = sum.wrapping_add(id);
         }
     }
-    sum
+    Some(sum)
 }
 
 // Checks every packet and walks over its messages; the sum of their instruments.
 pub fn walk_all(sheet: &Sheet, input: &[u8]) -> u64 {
     let mut sum: u64 = 0;
-    let mut calls = Calls { rest: input };
-    while let Some((kind, bytes)) = calls.next() {
-        if kind < 2 {
-            sum = sum.wrapping_add(walk_packet(sheet, bytes));
+    for entry in (Calls { rest: input }) {
+        if let Entry::Call(Call::Incremental(bytes) | Call::Snapshot(bytes)) = entry {
+            if let Some(ids) = walk_packet(sheet, bytes) {
+                sum = sum.wrapping_add(ids);
+            }
         }
     }
     sum

@@ -4,11 +4,9 @@ mod calls;
 mod digest;
 mod feeding;
 
-use crate::digest::digest_all;
-use crate::feeding::{feed, walk_all};
-use anyhow::anyhow;
+use crate::feeding::{Feeding, walk_all};
+use anyhow::{Context, anyhow};
 use commands::number::decimal;
-use layout::kinds::Actions;
 use layout::sheet::Sheet;
 use message::values::Order;
 use orders::opening::check_opening;
@@ -20,18 +18,29 @@ use std::{env, fs};
 
 const USAGE: &str = "usage: speed feed|walk|digest SHEET CALLS DEPTH PASSES ID..";
 
-const BLANK: Order = Order {
-    price: 0,
-    size: 0,
-    oid: 0,
-    firm: 0,
-};
+// what is measured: every call of the receiver, or the packet check and walk alone; or what is made of each call's answer
+#[derive(Clone, Copy, PartialEq, Eq)]
+enum Mode {
+    Feed,
+    Walk,
+    Digest,
+}
+
+impl<'a> From<&'a str> for Mode {
+    fn from(word: &'a str) -> Mode {
+        match word {
+            "feed" => Mode::Feed,
+            "walk" => Mode::Walk,
+            _ => Mode::Digest,
+        }
+    }
+}
 
 // what is measured, and how often
 #[derive(Drop)]
 struct Task {
-    mode: String,
-    text: Vec<u8>,
+    mode: Mode,
+    sheet: Sheet,
     input: Vec<u8>,
     depth: usize,
     passes: u64,
@@ -40,40 +49,35 @@ struct Task {
 
 // The next word of the command line.
 fn word(words: &mut env::Args) -> anyhow::Result<String> {
-    match words.next() {
-        Some(word) => Ok(word),
-        None => Err(anyhow!(USAGE)),
-    }
+    words.next().context(USAGE)
 }
 
 // The number that a word says.
 fn number(word: &str) -> anyhow::Result<u64> {
-    match decimal(word.as_bytes()) {
-        Some(n) => Ok(n),
-        None => Err(anyhow!(USAGE)),
-    }
+    decimal(word.as_bytes()).context(USAGE)
 }
 
 // What the command line asks for.
 fn asked(rt: &HostRuntime) -> anyhow::Result<Task> {
     let mut words = env::args(rt)?;
     let _ = words.next();
-    let mode = word(&mut words)?;
+    let mode = Mode::from(word(&mut words)?.as_str());
     let text = fs::read(rt, word(&mut words)?.as_str())?;
     let input = fs::read(rt, word(&mut words)?.as_str())?;
     let depth = number(word(&mut words)?.as_str())? as usize;
     let passes = number(word(&mut words)?.as_str())?;
     let mut ids = Vec::new(rt.alloc());
     // more than 64 instruments cannot be watched
-    for _ in 0..65 {
-        let Some(id) = words.next() else {
-            break;
-        };
+    for id in words.take(65) {
         ids.push(number(id.as_str())?)?;
+    }
+    let mut sheet = Sheet::blank(rt.alloc())?;
+    if fill(&mut sheet, text.as_slice()).is_err() {
+        return Err(anyhow!("the sheet breaks a rule"));
     }
     Ok(Task {
         mode,
-        text,
+        sheet,
         input,
         depth,
         passes,
@@ -81,105 +85,81 @@ fn asked(rt: &HostRuntime) -> anyhow::Result<Task> {
     })
 }
 
-// The sheet that a text fills.
-fn sheet_of(rt: &HostRuntime, text: &[u8]) -> anyhow::Result<Sheet> {
-    let mut sheet = Sheet::blank(rt.alloc())?;
-    match fill(&mut sheet, text) {
-        Ok(()) => Ok(sheet),
-        Err(_) => Err(anyhow!("the sheet breaks a rule")),
-    }
-}
-
-// One pass over the calls with a new receiver; how long it took is told, or a digest.
-fn pass(
-    rt: &HostRuntime,
-    task: &Task,
-    store: &mut OrderStore,
-    shelf: &mut [u8],
-) -> anyhow::Result<()> {
-    let sheet = sheet_of(rt, task.text.as_slice())?;
-    let ids = task.ids.as_slice();
-    let input = task.input.as_slice();
-    let mut desk = match Desk::open(store, sheet, 55, 1, 1, ids) {
-        Ok(desk) => desk,
-        Err(_) => return Err(anyhow!("the opening is refused")),
-    };
-    let start = Instant::now(rt);
-    let sum = if task.mode.as_str() == "feed" {
-        feed(&mut desk, store, shelf, input)
-    } else {
-        digest_all(&mut desk, store, shelf, input, ids)
-    };
-    let _ = desk.close();
-    let spent = start?.elapsed(rt)?;
-    if task.mode.as_str() == "feed" {
-        let nanos = spent.as_nanos();
-        println!(rt; "{nanos} {sum:016x}")?;
-    } else {
-        println!(rt; "digest {sum:016x}")?;
-    }
-    Ok(())
-}
-
-// As many passes as are asked for.
-fn repeat(
-    rt: &HostRuntime,
-    task: &Task,
-    store: &mut OrderStore,
-    shelf: &mut [u8],
-) -> anyhow::Result<()> {
-    for _ in 0..task.passes {
-        pass(rt, task, store, shelf)?;
-    }
-    Ok(())
-}
-
-// Every pass over the calls by one store, of that depth and over that table.
-fn receive(
-    rt: &HostRuntime,
-    task: &Task,
-    actions: Actions,
-    depth: usize,
-    table: &mut [Order],
-    shelf: &mut [u8],
-) -> anyhow::Result<()> {
-    match check_opening(depth, table.len()) {
-        Ok(()) => {
-            let mut store = OrderStore::open(actions, depth, table);
-            repeat(rt, task, &mut store, shelf)
+impl Task {
+    // One pass over the calls with a new receiver; how long it took is told, or a digest.
+    fn pass(
+        &self,
+        rt: &HostRuntime,
+        store: &mut OrderStore,
+        shelf: &mut [u8],
+    ) -> anyhow::Result<()> {
+        let ids = self.ids.as_slice();
+        let Ok(desk) = Desk::open(store, self.sheet.clone()?, 55, 1, 1, ids) else {
+            return Err(anyhow!("the opening is refused"));
+        };
+        let mut feeding = Feeding { desk, store, shelf };
+        let start = Instant::now(rt);
+        let sum = match self.mode {
+            Mode::Feed => feeding.feed(self.input.as_slice()),
+            _ => feeding.digest(self.input.as_slice(), ids),
+        };
+        let Feeding {
+            desk,
+            store: _,
+            shelf: _,
+        } = feeding;
+        let _ = desk.close();
+        let nanos = start?.elapsed(rt)?.as_nanos();
+        match self.mode {
+            Mode::Feed => println!(rt; "{nanos} {sum:016x}")?,
+            _ => println!(rt; "digest {sum:016x}")?,
         }
-        Err(_) => Err(anyhow!("the depth is refused")),
+        Ok(())
     }
-}
 
-// Every pass of the packet check and walk alone.
-fn walk(rt: &HostRuntime, task: &Task, sheet: &Sheet) -> anyhow::Result<()> {
-    for _ in 0..task.passes {
-        let start = Instant::now(rt)?;
-        let sum = walk_all(sheet, task.input.as_slice());
-        let nanos = start.elapsed(rt)?.as_nanos();
-        println!(rt; "{nanos} {sum:016x}")?;
+    // As many passes as are asked for, over one store of that depth in that table.
+    fn receive_over(
+        &self,
+        rt: &HostRuntime,
+        depth: usize,
+        table: &mut [Order],
+    ) -> anyhow::Result<()> {
+        let mut shelf = vec![in rt.alloc(); 0u8; 44800]?;
+        let mut store = match check_opening(depth, table.len()) {
+            Ok(()) => OrderStore::open(self.sheet.actions, depth, table),
+            Err(_) => return Err(anyhow!("the depth is refused")),
+        };
+        for _ in 0..self.passes {
+            self.pass(rt, &mut store, shelf.as_mut_slice())?;
+        }
+        Ok(())
     }
-    Ok(())
+
+    // As many passes as are asked for.
+    fn receive(&self, rt: &HostRuntime) -> anyhow::Result<()> {
+        let depth = self.depth.min(2000);
+        let mut table = vec![in rt.alloc(); Order::default(); 130 * depth]?;
+        self.receive_over(rt, depth, table.as_mut_slice())
+    }
+
+    // As many passes of the packet check and walk alone.
+    fn walk(&self, rt: &HostRuntime) -> anyhow::Result<()> {
+        for _ in 0..self.passes {
+            let start = Instant::now(rt)?;
+            let sum = walk_all(&self.sheet, self.input.as_slice());
+            let nanos = start.elapsed(rt)?.as_nanos();
+            println!(rt; "{nanos} {sum:016x}")?;
+        }
+        Ok(())
+    }
 }
 
 fn run(rt: &HostRuntime) -> anyhow::Result<()> {
     let task = asked(rt)?;
-    let sheet = sheet_of(rt, task.text.as_slice())?;
-    if task.mode.as_str() == "walk" {
-        return walk(rt, &task, &sheet);
+    match task.mode {
+        Mode::Walk => task.walk(rt),
+        Mode::Feed | Mode::Digest => task.receive(rt),
     }
-    let depth = task.depth.min(2000);
-    let mut shelf = vec![in rt.alloc(); 0u8; 44800]?;
-    let mut table = vec![in rt.alloc(); BLANK; 130 * depth]?;
-    receive(
-        rt,
-        &task,
-        sheet.actions,
-        depth,
-        table.as_mut_slice(),
-        shelf.as_mut_slice(),
-    )
 }
 
 fn main(rt: HostRuntime) -> anyhow::Result<()> {
