@@ -1,4 +1,12 @@
-ghost use Rattle.std.specs.Prelude.{◌≡◌, ◌+◌, ◌<◌, length, OnSome};
+ghost use Rattle.std.specs.Prelude.{length};
+ghost use Rattle.std.specs.Iterator.{at_most};
+
+// a line of an input, without its line feed, and its number
+#[derive(Clone, Copy)]
+pub struct Line<'a> {
+    pub text: &'a [u8],
+    pub number: u64,
+}
 
 // what is left of an input, and the number of its latest line
 #[derive(Drop)]
@@ -7,30 +15,35 @@ pub struct Lines<'a> {
     pub number: u64,
 }
 
-// The first line of an input that is not empty, and what is behind its line feed.
-fn first_line<'a>(input: &'a [u8]) -> (&'a [u8], &'a [u8])
-    requires { 0 < length input.now }
-    ensures { length result.1.now < length input.now }
-{
-    for (i, b) in input.iter().enumerate() {
-        if *b == b'\n' {
-            return (&input[0..i], &input[i + 1..]);
+impl<'a> Line<'a> {
+    // Whether the line is neither empty nor a comment.
+    pub fn is_spoken(&self) -> bool {
+        match self.text {
+            [] => false,
+            [first, ..] => *first != b'#',
         }
     }
-    (input, &input[0..0])
 }
 
-impl<'a> Lines<'a> {
-    // The next line, without its line feed.
-    pub fn next(&mut self) -> Option<&'a [u8]>
-        ensures { OnSome result (length self.new.rest.now < length self.old.rest.now) }
-    {
+impl<'a> Iterator for Lines<'a> {
+    type Item = Line<'a>;
+
+    ghost remaining = { λ s. at_most (length s.rest.now) };
+
+    fn next(&mut self) -> Option<Line<'a>> {
         if self.rest.is_empty() {
             return None;
         }
-        let (line, after) = first_line(self.rest);
+        let rest = self.rest;
+        let (text, after) = match rest.iter().position(|b| *b == b'\n') {
+            Some(at) => (&rest[..at], &rest[at + 1..]),
+            None => (rest, &rest[rest.len()..]),
+        };
         self.rest = after;
         self.number = self.number.saturating_add(1);
-        Some(line)
+        Some(Line {
+            text,
+            number: self.number,
+        })
     }
 }

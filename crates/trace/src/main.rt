@@ -1,34 +1,36 @@
 #![tactic(auto)]
 
+mod fault;
 mod lines;
+mod opening;
+mod service;
 mod serving;
 mod session;
 mod shows;
 mod telling;
-mod waiting;
 
 use crate::lines::Lines;
+use crate::serving::{begin, idle};
 use crate::session::Session;
 use std::io::Read;
 
 fn run(rt: &HostRuntime) -> anyhow::Result<()> {
     let mut input = Vec::new(rt.alloc());
     let _ = rt.stdin().read_to_end(&mut input)?;
-    let mut session = Session::new(rt.alloc())?;
-    let mut out = String::new(rt.alloc());
+    let mut session = Session::new(rt.alloc());
     let mut lines = Lines {
         rest: input.as_slice(),
         number: 0,
     };
-    let mut more = serving::idle(rt, &mut session, &mut lines, &mut out)?;
+    let mut next = idle(rt, &mut session, &mut lines)?;
     // each opening has a line of its own, so that there are at most as many as bytes
     for _ in 0..input.len() {
-        if !more {
+        let Some(opening) = next else {
             break;
-        }
-        more = serving::begin(rt, &mut session, &mut lines, &mut out)?;
+        };
+        next = begin(rt, &mut session, &mut lines, opening)?;
     }
-    rt.print(out.as_str())?;
+    rt.print(session.out.as_str())?;
     Ok(())
 }
 

@@ -2,72 +2,95 @@ use message::values::Order;
 use orders::order_store::OrderStore;
 use orders::side::Side;
 use panel::panel_store::PanelStore;
+use std::alloc::AllocError;
+use std::fmt;
+
+// what can be shown of a slot: the orders of a side, or the latest numbers of the statistics
+#[derive(Clone, Copy)]
+pub enum View {
+    Side(Side),
+    Statistics,
+}
+
+impl fmt::Display for View {
+    fn fmt<W: fmt::Write>(&self, f: &mut fmt::Formatter<W>) -> fmt::Result {
+        match self {
+            View::Side(Side::Bid) => write!(f, "bids"),
+            View::Side(Side::Offer) => write!(f, "offers"),
+            View::Statistics => write!(f, "stats"),
+        }
+    }
+}
 
 // How a store shows what it keeps.
 pub trait Shows {
-    fn has_orders(&self) -> bool;
+    // Whether the store has what a view shows.
+    fn has(&self, view: View) -> bool;
 
-    // The number of a side's orders and the orders by position; nothing where no orders are kept.
-    fn show_side(&self, slot: usize, side: Side, out: &mut String) -> anyhow::Result<()>;
-
-    // The latest numbers of these statistics; nothing where none are kept.
-    fn show_stats(&self, slot: usize, templates: &[u16], out: &mut String) -> anyhow::Result<()>;
+    // Writes what a view shows of a slot: the number of a side's orders and the orders by position, or the latest number of each
+    // statistic; nothing where the store has no such thing.
+    fn show(&self, slot: usize, view: View, out: &mut String) -> Result<(), AllocError>;
 }
 
-fn show_order(o: &Order, out: &mut String) -> anyhow::Result<()> {
-    let size = o.size;
-    let oid = o.oid;
-    let firm = o.firm;
-    if o.price == i64::MIN {
-        write!(out, " none,{size},{oid},{firm}")?;
-    } else {
-        let price = o.price;
-        write!(out, " {price},{size},{oid},{firm}")?;
+// a number that may be missing
+#[derive(Clone, Copy)]
+struct Number(Option<i64>);
+
+impl fmt::Display for Number {
+    fn fmt<W: fmt::Write>(&self, f: &mut fmt::Formatter<W>) -> fmt::Result {
+        match self.0 {
+            Some(n) => write!(f, "{n}"),
+            None => write!(f, "none"),
+        }
     }
-    Ok(())
+}
+
+// an order of a side
+#[derive(Clone, Copy)]
+struct Row(Order);
+
+impl fmt::Display for Row {
+    fn fmt<W: fmt::Write>(&self, f: &mut fmt::Formatter<W>) -> fmt::Result {
+        let Order {
+            price,
+            size,
+            oid,
+            firm,
+        } = self.0;
+        let price = Number(if price == i64::MIN { None } else { Some(price) });
+        write!(f, "{price},{size},{oid},{firm}")
+    }
 }
 
 impl<'t> Shows for OrderStore<'t> {
-    fn has_orders(&self) -> bool {
-        true
+    fn has(&self, view: View) -> bool {
+        matches!(view, View::Side(_))
     }
 
-    fn show_side(&self, slot: usize, side: Side, out: &mut String) -> anyhow::Result<()> {
-        let n = self.count(slot, side);
-        write!(out, " {n}")?;
-        for p in 0..n {
-            if let Some(o) = self.order(slot, side, p + 1) {
-                show_order(&o, out)?;
+    fn show(&self, slot: usize, view: View, out: &mut String) -> Result<(), AllocError> {
+        if let View::Side(side) = view {
+            let orders = self.side(slot, side);
+            let n = orders.len();
+            write!(out, " {n}")?;
+            for o in orders {
+                let row = Row(*o);
+                write!(out, " {row}")?;
             }
         }
-        Ok(())
-    }
-
-    fn show_stats(
-        &self,
-        _slot: usize,
-        _templates: &[u16],
-        _out: &mut String,
-    ) -> anyhow::Result<()> {
         Ok(())
     }
 }
 
 impl Shows for PanelStore {
-    fn has_orders(&self) -> bool {
-        false
+    fn has(&self, view: View) -> bool {
+        matches!(view, View::Statistics)
     }
 
-    fn show_side(&self, _slot: usize, _side: Side, _out: &mut String) -> anyhow::Result<()> {
-        Ok(())
-    }
-
-    fn show_stats(&self, slot: usize, templates: &[u16], out: &mut String) -> anyhow::Result<()> {
-        for t in templates {
-            let template = *t;
-            match self.number(slot, u64::from(template)) {
-                Some(n) => write!(out, " {template}={n}")?,
-                None => write!(out, " {template}=none")?,
+    fn show(&self, slot: usize, view: View, out: &mut String) -> Result<(), AllocError> {
+        if let View::Statistics = view {
+            for template in self.templates() {
+                let number = Number(self.number(slot, u64::from(*template)));
+                write!(out, " {template}={number}")?;
             }
         }
         Ok(())
