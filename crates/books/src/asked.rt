@@ -1,6 +1,7 @@
+use crate::course::Feeds;
 use anyhow::anyhow;
 use capture::endpoint::Endpoint;
-use commands::number::{decimal, decimal_in};
+use commands::number::{decimal, decimal_in, numbers};
 use layout::sheet::Sheet;
 use options::endpoint::endpoint_in;
 use options::fault::OptionFault;
@@ -10,7 +11,12 @@ use sheet_text::filling::fill;
 use sheet_text::text::cut;
 use std::{env, fs};
 
+const HELP: &str = "the command line is not understood; books --help tells all options";
+
+pub const USAGE: &str = "usage: books SHEET CAPTURE [options]; books --help tells all";
+
 // what the snapshot option says: nothing, that there is no loop, or where it is sent
+// kept: three cases with names, of which an Option in an Option would name none
 #[derive(Clone, Copy)]
 pub enum Loop {
     Unsaid,
@@ -18,179 +24,148 @@ pub enum Loop {
     At(Endpoint),
 }
 
+// the words of a command line, the program's name first, and what they stand for
+#[derive(Drop)]
+pub struct Words {
+    words: Vec<String>,
+    options: Options,
+}
+
 // what the command line asks for; what is not given is to be found
 #[derive(Drop)]
 pub struct Asked {
-    pub words: Vec<String>,
-    pub options: Options,
+    pub words: Words,
     pub channel: Option<u8>,
     pub version: Option<u16>,
-    pub first: Option<Endpoint>,
-    pub second: Option<Endpoint>,
+    pub feeds: Option<Feeds>,
     pub snapshot: Loop,
     pub watch: Vec<u64>,
     pub depth: usize,
 }
 
-// The words of the command line, the program's name first.
-fn words(rt: &HostRuntime) -> anyhow::Result<Vec<String>> {
-    let mut found = Vec::new(rt.alloc());
-    for word in env::args(rt)? {
-        found.push(word)?;
+// One or two addresses.
+fn feeds_in(word: &[u8]) -> Option<Feeds> {
+    match cut(word, b',') {
+        Some((first, second)) => Some(Feeds {
+            first: endpoint_in(first)?,
+            second: Some(endpoint_in(second)?),
+        }),
+        None => Some(Feeds {
+            first: endpoint_in(word)?,
+            second: None,
+        }),
     }
-    Ok(found)
 }
 
-// Says what is wrong with a word, and where help is.
-fn refuse(rt: &HostRuntime, words: &[String], place: usize, what: &str) -> anyhow::Result<()> {
-    if place < words.len() {
-        let word = words[place].as_str();
-        eprintln!(rt; "books: {what}: {word}")?;
-    } else {
-        eprintln!(rt; "books: {what}")?;
+fn loop_in(word: &[u8]) -> Option<Loop> {
+    match word {
+        b"none" => Some(Loop::Absent),
+        _ => Some(Loop::At(endpoint_in(word)?)),
     }
-    Err(anyhow!("the command line is not understood; books --help tells all options"))
 }
 
-// What the words stand for.
-fn read_words(rt: &HostRuntime, words: &[String]) -> anyhow::Result<Options> {
-    let mut options = Options::new();
-    for place in 1..words.len() {
-        match options.take(place, words[place].as_bytes()) {
-            Ok(()) => {}
-            Err(OptionFault::Unknown(at)) => refuse(rt, words, at, "there is no such option")?,
-            Err(OptionFault::Twice(at)) => refuse(rt, words, at, "an option is given twice")?,
-            Err(OptionFault::Extra(at)) => refuse(rt, words, at, "one word too many")?,
-            Err(OptionFault::NoValue(_)) => refuse(rt, words, place, "a value is missing")?,
+fn depth_in(word: &[u8]) -> Option<usize> {
+    match decimal(word)? {
+        depth @ 1..=1024 => Some(depth as usize),
+        _ => None,
+    }
+}
+
+impl Words {
+    // The words that the program was given.
+    fn read(rt: &HostRuntime) -> anyhow::Result<Words> {
+        let mut read = Words {
+            words: env::args(rt)?.collect(rt.alloc())?,
+            options: Options::new(),
+        };
+        for (place, word) in read.words.iter().enumerate().skip(1) {
+            if let Err(fault) = read.options.take(place, word.as_bytes()) {
+                let word = word.as_str();
+                eprintln!(rt; "books: {fault}: {word}")?;
+                return Err(anyhow!(HELP));
+            }
         }
+        if let Some(setting) = read.options.awaited {
+            let fault = OptionFault::NoValue(setting);
+            eprintln!(rt; "books: {fault}")?;
+            return Err(anyhow!(HELP));
+        }
+        Ok(read)
     }
-    if let Some(setting) = options.awaited {
-        let fault = OptionFault::NoValue(setting);
-        eprintln!(rt; "books: {fault}")?;
-        return Err(anyhow!("the command line is not understood; books --help tells all options"));
+
+    pub fn is_raised(&self, flag: Flag) -> bool {
+        self.options.is_raised(flag)
     }
-    Ok(options)
-}
 
-// Says that the value of a setting cannot be read.
-fn no_value(rt: &HostRuntime, asked: &Asked, setting: Setting, form: &str) -> anyhow::Result<()> {
-    eprintln!(rt; "books: {setting} wants {form}")?;
-    let place = asked.options.place_of(setting).unwrap_or(0);
-    refuse(rt, asked.words.as_slice(), place, "not")
-}
-
-impl Asked {
     // The word that is a setting's value, where it is given.
     pub fn value(&self, setting: Setting) -> Option<&str> {
-        let place = self.options.place_of(setting)?;
-        Some(self.words.get(place)?.as_str())
+        let word = self.words.get(self.options.place_of(setting)?)?;
+        Some(word.as_str())
     }
 
-    fn read_numbers(&mut self, rt: &HostRuntime) -> anyhow::Result<()> {
-        if let Some(word) = self.value(Setting::Channel) {
-            self.channel = decimal_in(word.as_bytes());
-            if self.channel.is_none() {
-                no_value(rt, self, Setting::Channel, "a number up to 255")?;
-            }
+    // What is read of a setting's value, where it is given; a word of which nothing is read is refused, and the form is told that
+    // is wanted.
+    fn value_by<T: Drop, F: FnOnce(&[u8]) -> Option<T>>(
+        &self,
+        rt: &HostRuntime,
+        setting: Setting,
+        form: &str,
+        read: F,
+    ) -> anyhow::Result<Option<T>>
+        requires { F.IsAlwaysCallable read }
+    {
+        let Some(word) = self.value(setting) else {
+            return Ok(None);
+        };
+        let value = read(word.as_bytes());
+        if value.is_none() {
+            eprintln!(rt; "books: {setting} wants {form}")?;
+            eprintln!(rt; "books: not: {word}")?;
+            return Err(anyhow!(HELP));
         }
-        if let Some(word) = self.value(Setting::Version) {
-            self.version = decimal_in(word.as_bytes());
-            if self.version.is_none() {
-                no_value(rt, self, Setting::Version, "a number up to 65534")?;
-            }
-        }
-        if let Some(word) = self.value(Setting::Depth) {
-            match decimal(word.as_bytes()) {
-                Some(depth) if 1 <= depth && depth <= 1024 => self.depth = depth as usize,
-                _ => no_value(rt, self, Setting::Depth, "a number from 1 to 1024")?,
-            }
-        }
-        Ok(())
-    }
-
-    fn read_endpoints(&mut self, rt: &HostRuntime) -> anyhow::Result<()> {
-        if let Some(word) = self.value(Setting::Incremental) {
-            let (one, two) = match cut(word.as_bytes(), b',') {
-                Some((before, after)) => (endpoint_in(before), Some(endpoint_in(after))),
-                None => (endpoint_in(word.as_bytes()), None),
-            };
-            self.first = one;
-            let mut well = one.is_some();
-            if let Some(second) = two {
-                well = well && second.is_some();
-                self.second = second;
-            }
-            if !well {
-                no_value(rt, self, Setting::Incremental, "IP:PORT or IP:PORT,IP:PORT")?;
-            }
-        }
-        if let Some(word) = self.value(Setting::Snapshot) {
-            if word == "none" {
-                self.snapshot = Loop::Absent;
-            } else {
-                match endpoint_in(word.as_bytes()) {
-                    Some(endpoint) => self.snapshot = Loop::At(endpoint),
-                    None => no_value(rt, self, Setting::Snapshot, "IP:PORT or none")?,
-                }
-            }
-        }
-        Ok(())
-    }
-
-    fn read_watch(&mut self, rt: &HostRuntime) -> anyhow::Result<()> {
-        let mut ids = Vec::new(rt.alloc());
-        let mut well = true;
-        if let Some(word) = self.value(Setting::Watch) {
-            let bytes = word.as_bytes();
-            let mut rest = bytes;
-            for _ in 0..bytes.len() {
-                let Some((id, after)) = cut(rest, b',') else {
-                    break;
-                };
-                match decimal(id) {
-                    Some(id) => ids.push(id)?,
-                    None => well = false,
-                }
-                rest = after;
-            }
-            match decimal(rest) {
-                Some(id) => ids.push(id)?,
-                None => well = false,
-            }
-        }
-        self.watch = ids;
-        if !well {
-            no_value(rt, self, Setting::Watch, "instruments as ID,ID,ID")?;
-        }
-        Ok(())
+        Ok(value)
     }
 }
 
-// What the command line asks for.
-pub fn read_command(rt: &HostRuntime) -> anyhow::Result<Asked> {
-    let words = words(rt)?;
-    let options = read_words(rt, words.as_slice())?;
-    let mut asked = Asked {
+// What the command line asks for; nothing where it asks for help.
+pub fn read_command(rt: &HostRuntime) -> anyhow::Result<Option<Asked>> {
+    let words = Words::read(rt)?;
+    if words.is_raised(Flag::Help) {
+        return Ok(None);
+    }
+    if words.value(Setting::Capture).is_none() {
+        return Err(anyhow!(USAGE));
+    }
+    let heap = rt.alloc();
+    let channel = words.value_by(rt, Setting::Channel, "a number up to 255", decimal_in::<u8>)?;
+    let version = words.value_by(
+        rt,
+        Setting::Version,
+        "a number up to 65534",
+        decimal_in::<u16>,
+    )?;
+    let depth = words.value_by(rt, Setting::Depth, "a number from 1 to 1024", depth_in)?;
+    let feeds = words.value_by(
+        rt,
+        Setting::Incremental,
+        "IP:PORT or IP:PORT,IP:PORT",
+        feeds_in,
+    )?;
+    let snapshot = words.value_by(rt, Setting::Snapshot, "IP:PORT or none", loop_in)?;
+    let watch = words
+        .value_by(rt, Setting::Watch, "instruments as ID,ID,ID", |word| {
+            numbers(heap, word, b',').transpose()
+        })?
+        .transpose()?;
+    Ok(Some(Asked {
         words,
-        options,
-        channel: None,
-        version: None,
-        first: None,
-        second: None,
-        snapshot: Loop::Unsaid,
-        watch: Vec::new(rt.alloc()),
-        depth: 1024,
-    };
-    if options.is_raised(Flag::Help) {
-        return Ok(asked);
-    }
-    if options.place_of(Setting::Capture).is_none() {
-        return Err(anyhow!("usage: books SHEET CAPTURE [options]; books --help tells all"));
-    }
-    asked.read_numbers(rt)?;
-    asked.read_endpoints(rt)?;
-    asked.read_watch(rt)?;
-    Ok(asked)
+        channel,
+        version,
+        feeds,
+        snapshot: snapshot.unwrap_or(Loop::Unsaid),
+        watch: watch.unwrap_or(Vec::new(heap)),
+        depth: depth.unwrap_or(1024),
+    }))
 }
 
 // The sheet that a file's text fills.

@@ -1,83 +1,67 @@
 use capture::endpoint::Endpoint;
 use destinations::received::Received;
-use refusal::Refusal;
+use std::alloc::{AllocError, Global};
+use std::fmt;
 
-// what the books are rebuilt from: one channel and version, one or two incremental feeds, the snapshot loop, the instruments
+// one incremental feed, or both feeds A and B
+#[derive(Clone, Copy)]
+pub struct Feeds {
+    pub first: Endpoint,
+    pub second: Option<Endpoint>,
+}
+
+// what the books are rebuilt from: one channel and version, the incremental feeds, the snapshot loop, the instruments
 #[derive(Drop)]
 pub struct Course {
     pub channel: u8,
     pub version: u16,
-    pub first: Endpoint,
-    pub second: Option<Endpoint>,
+    pub feeds: Feeds,
     pub snapshot: Option<Endpoint>,
     pub watch: Vec<u64>,
 }
 
-// which of its destinations a packet came to
+// what packets come to a destination
 #[derive(Clone, Copy, Debug, PartialEq, Eq)]
-pub enum Lane {
-    First,
-    Second,
+pub enum Role {
+    Incremental,
     Snapshot,
 }
 
-// what became of the packets of each destination
+// a destination of a course, and what became of its packets
 #[derive(Clone, Copy)]
-pub struct Lanes {
-    pub first: Received,
-    pub second: Received,
-    pub snapshot: Received,
+pub struct Lane {
+    pub role: Role,
+    pub to: Endpoint,
+    pub received: Received,
+}
+
+impl fmt::Display for Role {
+    fn fmt<W: fmt::Write>(&self, f: &mut fmt::Formatter<W>) -> fmt::Result {
+        match self {
+            Role::Incremental => write!(f, "incremental"),
+            Role::Snapshot => write!(f, "snapshot"),
+        }
+    }
 }
 
 impl Course {
-    // Which of these destinations has this address and port, if one has.
-    pub fn lane(&self, to: Endpoint) -> Option<Lane> {
-        if self.first == to {
-            return Some(Lane::First);
+    // The destinations, the incremental feeds first.
+    pub fn lanes(&self, heap: Global) -> Result<Vec<Lane>, AllocError> {
+        let all = [
+            (Role::Incremental, Some(self.feeds.first)),
+            (Role::Incremental, self.feeds.second),
+            (Role::Snapshot, self.snapshot),
+        ];
+        let mut lanes = Vec::new(heap);
+        for (role, to) in all {
+            if let Some(to) = to {
+                lanes.push(Lane {
+                    role,
+                    to,
+                    received: Received::new(),
+                })?;
+            }
         }
-        if self.second == Some(to) {
-            return Some(Lane::Second);
-        }
-        if self.snapshot == Some(to) {
-            return Some(Lane::Snapshot);
-        }
-        None
-    }
-}
-
-impl Lanes {
-    pub fn new() -> Lanes {
-        Lanes {
-            first: Received::new(),
-            second: Received::new(),
-            snapshot: Received::new(),
-        }
-    }
-
-    // Counts a packet that was taken.
-    pub fn take(&mut self, lane: Lane) {
-        match lane {
-            Lane::First => self.first.take(),
-            Lane::Second => self.second.take(),
-            Lane::Snapshot => self.snapshot.take(),
-        }
-    }
-
-    // Counts a packet that came before.
-    pub fn repeat(&mut self, lane: Lane) {
-        match lane {
-            Lane::First => self.first.repeat(),
-            Lane::Second => self.second.repeat(),
-            Lane::Snapshot => self.snapshot.repeat(),
-        }
-    }
-
-    // Counts a packet that was refused.
-    pub fn refuse(&mut self, lane: Lane, refusal: Refusal, index: u64) {
-        match lane {
-            Lane::First => self.first.refuse(refusal, index),
-            Lane::Second => self.second.refuse(refusal, index),
-            Lane::Snapshot => self.snapshot.refuse(refusal, index),
-        }
+        Ok(lanes)
     }
 }

@@ -9,6 +9,7 @@ mod opening;
 mod output;
 mod picture;
 mod serving;
+mod source;
 mod state;
 mod summary;
 mod tables;
@@ -17,15 +18,15 @@ mod verdict;
 
 use crate::asked::read_command;
 use crate::opening::build;
-use options::setting::Flag;
 
 fn run(rt: &HostRuntime) -> anyhow::Result<()> {
-    let asked = read_command(rt)?;
-    if asked.options.is_raised(Flag::Help) {
-        rt.print(help::TEXT)?;
-        return Ok(());
+    match read_command(rt)? {
+        Some(asked) => build(rt, &asked),
+        None => {
+            rt.print(help::TEXT)?;
+            Ok(())
+        }
     }
-    build(rt, &asked)
 }
 
 fn main(rt: HostRuntime) -> anyhow::Result<()> {

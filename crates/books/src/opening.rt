@@ -1,11 +1,12 @@
-use crate::asked::{Asked, load};
+use crate::asked::{Asked, USAGE, load};
 use crate::choosing::{choose, given};
 use crate::course::Course;
 use crate::finding::find;
 use crate::output::Output;
-use crate::picture::draw_coverage;
-use crate::serving::{attend, close_stretch};
-use crate::state::State;
+use crate::picture::Picture;
+use crate::serving::Pass;
+use crate::source::Source;
+use crate::state::{Depth, State};
 use crate::summary::summarize;
 use crate::tables::Tells;
 use crate::verdict::verdict;
@@ -24,13 +25,6 @@ use settling::watch::Watch;
 use std::fs;
 use store::store::Store;
 
-const BLANK: Order = Order {
-    price: 0,
-    size: 0,
-    oid: 0,
-    firm: 0,
-};
-
 // The instruments as a receiver watches them.
 fn watched(rt: &HostRuntime, course: &Course) -> anyhow::Result<Watch> {
     let ids = course.watch.as_slice();
@@ -45,14 +39,16 @@ fn watched(rt: &HostRuntime, course: &Course) -> anyhow::Result<Watch> {
 fn serve<S: Store + Tells>(
     rt: &HostRuntime,
     store: &mut S,
-    sheet: Sheet,
     state: &mut State,
-    out: &mut Output,
-    path: &str,
-    progress: bool,
-) -> anyhow::Result<Option<CaptureFault>> {
-    let channel = state.course.channel;
-    let version = state.course.version;
+    source: Source,
+) -> anyhow::Result<Result<(), CaptureFault>> {
+    let sheet = state.sheet.clone()?;
+    let shelf = vec![in rt.alloc(); 0u8; 44800]?;
+    let Course {
+        channel,
+        version,
+        ..
+    } = state.course;
     match Desk::open(
         store,
         sheet,
@@ -62,10 +58,21 @@ fn serve<S: Store + Tells>(
         state.course.watch.as_slice(),
     ) {
         Ok(desk) => {
-            let mut desk = desk;
-            let fault = attend(rt, &mut desk, store, state, out, path, progress);
+            let mut pass = Pass {
+                desk,
+                store,
+                shelf,
+                state,
+            };
+            let whole = pass.attend(rt, source);
+            let Pass {
+                desk,
+                store: _,
+                shelf: _,
+                state: _,
+            } = pass;
             let _ = desk.close();
-            fault
+            whole
         }
         Err(fault) => {
             let refusal = Refusal::from(fault);
@@ -77,104 +84,88 @@ fn serve<S: Store + Tells>(
     }
 }
 
-// Rebuilds books of orders.
-fn rebuild_orders(
+// Rebuilds the books: of orders where there is a depth, else panels of statistics.
+fn rebuild(
     rt: &HostRuntime,
-    sheet: Sheet,
     state: &mut State,
-    out: &mut Output,
-    path: &str,
-    progress: bool,
-) -> anyhow::Result<Option<CaptureFault>> {
-    let depth = state.depth;
+    source: Source,
+) -> anyhow::Result<Result<(), CaptureFault>> {
+    let Some(depth) = state.depth else {
+        let mut store = PanelStore::open(&state.sheet);
+        return serve(rt, &mut store, state, source);
+    };
+    let depth = depth.orders;
     let books = state.course.watch.len().saturating_add(1).max(2);
     let room = depth.saturating_mul(2).saturating_mul(books);
-    let mut table = vec![in rt.alloc(); BLANK; room]?;
-    let actions = sheet.actions;
+    let mut table = vec![in rt.alloc(); Order::default(); room]?;
     match check_opening(depth, table.len()) {
         Ok(()) => {
-            let mut store = OrderStore::open(actions, depth, table.as_mut_slice());
-            serve(rt, &mut store, sheet, state, out, path, progress)
+            let mut store = OrderStore::open(state.sheet.actions, depth, table.as_mut_slice());
+            serve(rt, &mut store, state, source)
         }
         Err(_) => Err(anyhow!("no books can be opened with this depth")),
     }
 }
 
-// Rebuilds panels of statistics.
-fn rebuild_panels(
-    rt: &HostRuntime,
-    sheet: Sheet,
-    state: &mut State,
-    out: &mut Output,
-    path: &str,
-    progress: bool,
-) -> anyhow::Result<Option<CaptureFault>> {
-    let mut store = PanelStore::open(&sheet);
-    serve(rt, &mut store, sheet, state, out, path, progress)
-}
-
 // What is asked for, or else found by a first pass.
 fn course(rt: &HostRuntime, asked: &Asked, path: &str, sheet: &Sheet) -> anyhow::Result<Course> {
-    match given(rt, asked)? {
-        Some(course) => Ok(course),
-        None => {
-            let finding = find(rt, path, sheet)?;
-            choose(rt, asked, &finding)
-        }
+    if let Some(course) = given(rt, asked)? {
+        return Ok(course);
     }
+    let finding = find(rt, path, sheet)?;
+    choose(rt, asked, &finding)
 }
 
 // Makes the table from the capture; the file has its name only once it is whole.
 fn make(
     rt: &HostRuntime,
     asked: &Asked,
-    sheet_path: &str,
-    path: &str,
+    sheet: &str,
+    capture: &str,
     part: Option<&str>,
 ) -> anyhow::Result<()> {
-    let sheet = load(rt, sheet_path)?;
-    let own_sheet = load(rt, sheet_path)?;
-    let course = course(rt, asked, path, &sheet)?;
+    let sheet = load(rt, sheet)?;
+    let course = course(rt, asked, capture, &sheet)?;
     let watch = watched(rt, &course)?;
-    let picture = asked.value(Setting::Coverage);
-    let panel = asked.options.is_raised(Flag::Panel);
-    let progress = asked.options.is_raised(Flag::Progress);
-    let depth = if panel { 0 } else { asked.depth };
-    let mut state = State::new(
-        rt.alloc(),
-        course,
-        own_sheet,
-        watch,
-        depth,
-        picture.is_some(),
-    )?;
-    let mut out = Output::new(rt, part)?;
-    let fault = if panel {
-        rebuild_panels(rt, sheet, &mut state, &mut out, path, progress)?
-    } else {
-        rebuild_orders(rt, sheet, &mut state, &mut out, path, progress)?
+    let source = Source {
+        path: capture,
+        progress: asked.words.is_raised(Flag::Progress),
     };
-    out.flush(rt)?;
-    let packets = state.packets;
-    let heard = state.heard;
-    for told in state.told.as_mut_slice().iter_mut() {
-        close_stretch(told, packets, heard);
+    let depth = if asked.words.is_raised(Flag::Panel) {
+        None
+    } else {
+        Some(Depth {
+            orders: asked.depth,
+            full: false,
+        })
+    };
+    let picture = asked
+        .words
+        .value(Setting::Coverage)
+        .map(|path| Picture::new(rt.alloc(), path))
+        .transpose()?;
+    let out = Output::new(rt, part)?;
+    let mut state = State::new(rt.alloc(), course, sheet, watch, depth, picture, out)?;
+    let whole = rebuild(rt, &mut state, source)?;
+    state.out.flush(rt)?;
+    state.close_stretches();
+    summarize(rt, &state)?;
+    verdict(rt, capture, &state, whole)?;
+    if let Some(picture) = &mut state.picture {
+        picture.draw(rt, state.course.watch.as_slice(), state.heard)?;
     }
-    summarize(rt, &state, out.rows)?;
-    verdict(rt, path, &state, fault)?;
-    match picture {
-        Some(picture) => draw_coverage(rt, &mut state, picture),
-        None => Ok(()),
-    }
+    Ok(())
 }
 
 // Builds the table that the command line asks for.
 pub fn build(rt: &HostRuntime, asked: &Asked) -> anyhow::Result<()> {
-    let (Some(sheet), Some(capture)) = (asked.value(Setting::Sheet), asked.value(Setting::Capture))
-    else {
-        return Err(anyhow!("usage: books SHEET CAPTURE [options]; books --help tells all"));
+    let (Some(sheet), Some(capture)) = (
+        asked.words.value(Setting::Sheet),
+        asked.words.value(Setting::Capture),
+    ) else {
+        return Err(anyhow!(USAGE));
     };
-    match asked.value(Setting::Out) {
+    match asked.words.value(Setting::Out) {
         None => make(rt, asked, sheet, capture, None),
         Some(path) => {
             let part = format!(in rt.alloc(); "{path}.part")?;

@@ -1,3 +1,4 @@
+use std::fmt::Display;
 use std::fs;
 use std::fs::File;
 use std::io::Write;
@@ -16,16 +17,20 @@ pub struct Output {
 impl Output {
     // Rows for a file, or for standard output where there is no path.
     pub fn new(rt: &HostRuntime, path: Option<&str>) -> anyhow::Result<Output> {
-        let file = match path {
-            Some(path) => Some(fs::create(rt, path)?),
-            None => None,
-        };
+        let file = path.map(|path| fs::create(rt, path)).transpose()?;
         let text = String::with_capacity(rt.alloc(), 2 * BLOCK)?;
         Ok(Output {
             file,
             text,
             rows: 0,
         })
+    }
+
+    // One row more.
+    pub fn row<D: Display + Drop>(&mut self, columns: D) -> anyhow::Result<()> {
+        writeln!(&mut self.text, "{columns}")?;
+        self.rows = self.rows.saturating_add(1);
+        Ok(())
     }
 
     // Writes what has gathered, once it is a block.

@@ -1,65 +1,39 @@
-use crate::course::{Course, Lanes};
+use crate::course::{Course, Lane, Role};
+use crate::output::Output;
+use crate::picture::Picture;
 use crate::told::Told;
 use changes::named::Named;
-use coverage::coverage::Coverage;
-use layout::kinds::Layout;
+use layout::kinds::Kind;
 use layout::sheet::Sheet;
 use packet::checked::Checked;
-use packet::head::PacketHead;
 use packet::rules::check;
-use recovery::answers::Sign;
 use settling::watch::Watch;
-use shares::share::Share;
 use std::alloc::{AllocError, Global};
 
-// where the pass over a capture stands
+// how many orders are kept on a side, and whether a side was full when a book got stale
+#[derive(Clone, Copy)]
+pub struct Depth {
+    pub orders: usize,
+    pub full: bool,
+}
+
+// where the pass over a capture stands; there is a depth where orders are kept
 #[derive(Drop)]
 pub struct State {
     pub course: Course,
     pub sheet: Sheet,
     pub watch: Watch,
-    pub templates: Vec<u16>,
     pub told: Vec<Told>,
     pub named: Named,
-    pub lanes: Lanes,
+    pub lanes: Vec<Lane>,
     pub records: u64,
     pub packets: u64,
     pub adoptions: u64,
     pub heard: u64,
-    pub depth: usize,
-    pub full: bool,
+    pub depth: Option<Depth>,
     pub heap: Global,
-    pub draws: bool,
-    pub coverage: Option<Coverage>,
-}
-
-// The templates of statistics, in the order of the sheet.
-fn statistics(heap: Global, sheet: &Sheet) -> Result<Vec<u16>, AllocError> {
-    let mut found = Vec::new(heap);
-    for t in sheet.templates.as_slice() {
-        if let Layout::Stat(_) = t.layout {
-            found.push(t.id)?;
-        }
-    }
-    Ok(found)
-}
-
-// Nothing told yet of these instruments.
-fn untold(heap: Global, watch: &[u64], templates: usize) -> Result<Vec<Told>, AllocError> {
-    let mut told = Vec::new(heap);
-    for instrument in watch {
-        told.push(Told {
-            instrument: *instrument,
-            sign: Sign::Current,
-            number: 0,
-            figures: None,
-            values: vec![in heap; None; templates]?,
-            since: 0,
-            from: 0,
-            share: Share::new(),
-        })?;
-    }
-    Ok(told)
+    pub picture: Option<Picture>,
+    pub out: Output,
 }
 
 impl State {
@@ -68,42 +42,55 @@ impl State {
         course: Course,
         sheet: Sheet,
         watch: Watch,
-        depth: usize,
-        draws: bool,
+        depth: Option<Depth>,
+        picture: Option<Picture>,
+        out: Output,
     ) -> Result<State, AllocError> {
-        let templates = statistics(heap, &sheet)?;
-        let told = untold(heap, course.watch.as_slice(), templates.len())?;
+        let statistics = sheet
+            .templates
+            .iter()
+            .filter(|t| t.layout.kind() == Kind::Stat)
+            .count();
+        let told = course
+            .watch
+            .iter()
+            .map(|id| Told::new(heap, *id, statistics))
+            .try_collect(heap)?;
+        let lanes = course.lanes(heap)?;
         Ok(State {
             course,
             sheet,
             watch,
-            templates,
             told,
             named: Named::new(),
-            lanes: Lanes::new(),
+            lanes,
             records: 0,
             packets: 0,
             adoptions: 0,
             heard: 0,
             depth,
-            full: false,
             heap,
-            draws,
-            coverage: None,
+            picture,
+            out,
         })
     }
 
     // Notes which instruments a packet names; a snapshot's packets name them under the lowest number.
-    pub fn name(&mut self, payload: &[u8], incremental: bool) {
-        if let Ok(()) = check(&self.sheet, payload) {
+    pub fn name(&mut self, payload: &[u8], role: Role) {
+        if check(&self.sheet, payload).is_ok() {
             let packet = Checked::new(&self.sheet, payload);
-            let PacketHead {
-                channel: _,
-                version: _,
-                number,
-            } = packet.head();
-            let number = if incremental { u64::from(number) } else { 1 };
+            let number = match role {
+                Role::Incremental => u64::from(packet.head().number),
+                Role::Snapshot => 1,
+            };
             self.named.note(&self.watch, packet.walk(), number);
+        }
+    }
+
+    // Closes the stretch of packets at which each book had its mark.
+    pub fn close_stretches(&mut self) {
+        for told in self.told.iter_mut() {
+            told.close_stretch(self.packets, self.heard);
         }
     }
 }

@@ -1,24 +1,19 @@
+use crate::course::Lane;
 use crate::state::State;
 use crate::told::Told;
-use capture::endpoint::Endpoint;
-use destinations::received::Received;
 use destinations::refusals::First;
 use refusal::Reason;
 use shares::noting::hundredths;
 
 // What became of the packets of one destination.
-fn write_received(
-    out: &mut String,
-    name: &str,
-    endpoint: Endpoint,
-    received: &Received,
-) -> anyhow::Result<()> {
+fn write_lane(out: &mut String, lane: &Lane) -> anyhow::Result<()> {
+    let Lane { role, to, received } = lane;
     let taken = received.taken;
     let repeated = received.repeated;
     let late = received.refusals.of(Reason::Late).count;
     writeln!(
         out,
-        "{name} {endpoint}: {taken} taken, {repeated} repeated, {late} late"
+        "{role} {to}: {taken} taken, {repeated} repeated, {late} late"
     )?;
     for reason in Reason::ALL {
         let number = reason.number();
@@ -66,24 +61,20 @@ fn write_told(out: &mut String, told: &Told) -> anyhow::Result<()> {
 }
 
 // Writes the summary of a pass.
-pub fn summarize(rt: &HostRuntime, state: &State, rows: u64) -> anyhow::Result<()> {
+pub fn summarize(rt: &HostRuntime, state: &State) -> anyhow::Result<()> {
     let mut out = String::new(rt.alloc());
-    let course = &state.course;
-    write_received(&mut out, "incremental", course.first, &state.lanes.first)?;
-    if let Some(second) = course.second {
-        write_received(&mut out, "incremental", second, &state.lanes.second)?;
-    }
-    if let Some(snapshot) = course.snapshot {
-        write_received(&mut out, "snapshot", snapshot, &state.lanes.snapshot)?;
+    for lane in &state.lanes {
+        write_lane(&mut out, lane)?;
     }
     let packets = state.packets;
     let adoptions = state.adoptions;
     let records = state.records;
+    let rows = state.out.rows;
     writeln!(
         &mut out,
         "records {records}, packets taken {packets}, adoptions {adoptions}"
     )?;
-    for told in state.told.as_slice() {
+    for told in &state.told {
         write_told(&mut out, told)?;
     }
     writeln!(&mut out, "rows {rows}")?;

@@ -1,83 +1,65 @@
 use crate::output::Output;
 use crate::told::{Stamp, Told};
-use figures::figures::{Figures, SideFigures};
+use figures::figures::{Figures, SideFigures, Top};
 use orders::order_store::OrderStore;
 use orders::side::Side;
 use panel::panel_store::PanelStore;
 use recovery::answers::Sign;
+use std::fmt;
 
 // How a store's values become rows.
 pub trait Tells {
     // The names of the columns.
     fn columns(&self) -> &'static str;
 
-    // Writes the rows that are due of the book at a slot, which stands as the stamp says; `marked` says that its mark is new.
+    // Writes the rows that are due of the book at a slot, which stands as the stamp says.
     fn tell(
         &self,
         slot: usize,
         stamp: &Stamp,
-        marked: bool,
-        templates: &[u16],
         told: &mut Told,
         out: &mut Output,
     ) -> anyhow::Result<()>;
 }
 
-// A mark's word.
-pub fn sign_word(sign: Sign) -> &'static str {
-    match sign {
-        Sign::Stale => "stale",
-        Sign::Recovering => "recovering",
-        Sign::Current => "current",
-    }
-}
+// the columns of a side
+#[derive(Clone, Copy)]
+struct SideColumns(SideFigures);
 
-// The columns that every table begins with; a stale book is as of no packet.
-fn write_stamp(out: &mut String, stamp: &Stamp) -> anyhow::Result<()> {
-    let time = stamp.time;
-    let heard = stamp.heard;
-    let instrument = stamp.instrument;
-    let number = stamp.number;
-    match stamp.sign {
-        Sign::Stale => write!(out, "{time},{heard},{instrument},stale,")?,
-        Sign::Recovering => write!(out, "{time},{heard},{instrument},recovering,{number}")?,
-        Sign::Current => write!(out, "{time},{heard},{instrument},current,{number}")?,
-    }
-    Ok(())
-}
+// the columns of a book
+#[derive(Clone, Copy)]
+struct Columns(Figures);
 
-// The columns of a side.
-fn write_side(out: &mut String, side: &SideFigures) -> anyhow::Result<()> {
-    match side.top {
-        Some(top) => {
-            let size = top.size;
-            match top.price {
-                Some(price) => write!(out, ",{price},{size}")?,
-                None => write!(out, ",,{size}")?,
-            }
+impl fmt::Display for SideColumns {
+    fn fmt<W: fmt::Write>(&self, f: &mut fmt::Formatter<W>) -> fmt::Result {
+        let SideFigures { top, orders, total } = self.0;
+        match top {
+            Some(
+                Top {
+                    price: Some(price),
+                    size,
+                },
+            ) => write!(f, ",{price},{size}")?,
+            Some(Top { price: None, size }) => write!(f, ",,{size}")?,
+            None => write!(f, ",,")?,
         }
-        None => out.push_str(",,")?,
+        // a number of 64 bits is written faster
+        match u64::try_from(total) {
+            Ok(total) => write!(f, ",{orders},{total}"),
+            Err(_) => write!(f, ",{orders},{total}"),
+        }
     }
-    let orders = side.orders;
-    let total = side.total;
-    if total <= 18446744073709551615 {
-        let total = total as u64;
-        write!(out, ",{orders},{total}")?;
-    } else {
-        write!(out, ",{orders},{total}")?;
-    }
-    Ok(())
 }
 
-// The columns of a book.
-fn write_figures(out: &mut String, figures: &Figures) -> anyhow::Result<()> {
-    write_side(out, &figures.bid)?;
-    write_side(out, &figures.offer)?;
-    match figures.spread() {
-        Some(spread) => writeln!(out, ",{spread}")?,
-        None => out.push_str(",\n")?,
+impl fmt::Display for Columns {
+    fn fmt<W: fmt::Write>(&self, f: &mut fmt::Formatter<W>) -> fmt::Result {
+        let bid = SideColumns(self.0.bid);
+        let offer = SideColumns(self.0.offer);
+        match self.0.spread() {
+            Some(spread) => write!(f, "{bid}{offer},{spread}"),
+            None => write!(f, "{bid}{offer},"),
+        }
     }
-    Ok(())
 }
 
 impl<'t> Tells for OrderStore<'t> {
@@ -89,52 +71,23 @@ impl<'t> Tells for OrderStore<'t> {
         &self,
         slot: usize,
         stamp: &Stamp,
-        marked: bool,
-        _templates: &[u16],
         told: &mut Told,
         out: &mut Output,
     ) -> anyhow::Result<()> {
-        if let Sign::Stale = stamp.sign {
-            if marked {
-                write_stamp(&mut out.text, stamp)?;
-                out.text.push_str(",,,,,,,,,\n")?;
-                out.rows = out.rows.saturating_add(1);
+        if stamp.sign == Sign::Stale {
+            if stamp.marked {
+                out.row(format_args!("{stamp},,,,,,,,,"))?;
             }
             told.figures = None;
             return Ok(());
         }
         let figures = Figures::of(self.side(slot, Side::Bid), self.side(slot, Side::Offer));
-        if marked || figures.is_new(told.figures) {
-            write_stamp(&mut out.text, stamp)?;
-            write_figures(&mut out.text, &figures)?;
-            out.rows = out.rows.saturating_add(1);
+        if stamp.marked || figures.is_new(told.figures) {
+            let columns = Columns(figures);
+            out.row(format_args!("{stamp}{columns}"))?;
             told.figures = Some(figures);
         }
         Ok(())
-    }
-}
-
-// A row of a statistic's number, or of none.
-fn write_value(
-    out: &mut Output,
-    stamp: &Stamp,
-    template: u16,
-    value: Option<i64>,
-) -> anyhow::Result<()> {
-    write_stamp(&mut out.text, stamp)?;
-    match value {
-        Some(value) => writeln!(&mut out.text, ",{template},{value}")?,
-        None => writeln!(&mut out.text, ",{template},")?,
-    }
-    out.rows = out.rows.saturating_add(1);
-    Ok(())
-}
-
-fn same_value(a: Option<i64>, b: Option<i64>) -> bool {
-    match (a, b) {
-        (Some(x), Some(y)) => x == y,
-        (None, None) => true,
-        _ => false,
     }
 }
 
@@ -147,29 +100,24 @@ impl Tells for PanelStore {
         &self,
         slot: usize,
         stamp: &Stamp,
-        marked: bool,
-        templates: &[u16],
         told: &mut Told,
         out: &mut Output,
     ) -> anyhow::Result<()> {
-        if marked {
-            write_stamp(&mut out.text, stamp)?;
-            out.text.push_str(",,\n")?;
-            out.rows = out.rows.saturating_add(1);
+        if stamp.marked {
+            out.row(format_args!("{stamp},,"))?;
         }
-        let stale = matches!(stamp.sign, Sign::Stale);
-        for i in 0..templates.len().min(told.values.len()) {
-            let template = templates[i];
-            let value = if stale {
-                None
-            } else {
-                self.number(slot, u64::from(template))
-            };
-            if !same_value(told.values[i], value) {
-                if !stale {
-                    write_value(out, stamp, template, value)?;
+        if stamp.sign == Sign::Stale {
+            told.values.fill(None);
+            return Ok(());
+        }
+        for (template, last) in self.templates().iter().zip(told.values.iter_mut()) {
+            let value = self.number(slot, u64::from(*template));
+            if *last != value {
+                match value {
+                    Some(value) => out.row(format_args!("{stamp},{template},{value}"))?,
+                    None => out.row(format_args!("{stamp},{template},"))?,
                 }
-                told.values[i] = value;
+                *last = value;
             }
         }
         Ok(())

@@ -1,4 +1,3 @@
-use crate::choosing::list_destinations;
 use crate::finding::find;
 use crate::state::State;
 use anyhow::anyhow;
@@ -7,8 +6,8 @@ use destinations::received::Received;
 use refusal::Reason;
 
 // Says where a capture is damaged.
-fn damage(rt: &HostRuntime, path: &str, fault: Option<CaptureFault>) -> anyhow::Result<()> {
-    if let Some(fault) = fault {
+fn damage(rt: &HostRuntime, path: &str, whole: Result<(), CaptureFault>) -> anyhow::Result<()> {
+    if let Err(fault) = whole {
         let at = fault.offset();
         eprintln!(rt;
             "books: {path}: {fault}, at byte {at}; the rows end with the packet before it"
@@ -20,13 +19,12 @@ fn damage(rt: &HostRuntime, path: &str, fault: Option<CaptureFault>) -> anyhow::
 
 // Says of a destination to which nothing came, or whose packets were all refused, why.
 fn feed(rt: &HostRuntime, path: &str, state: &State, received: &Received) -> anyhow::Result<()> {
-    let refused = received.refusals.total();
     if received.taken > 0 || received.repeated > 0 {
         return Ok(());
     }
+    let refused = received.refusals.total();
     if refused == 0 {
-        let finding = find(rt, path, &state.sheet)?;
-        list_destinations(rt, &finding)?;
+        find(rt, path, &state.sheet)?.list(rt)?;
         return Err(anyhow!(
             "no packet came to one of the destinations; take it from the list above"
         ));
@@ -47,15 +45,15 @@ fn feed(rt: &HostRuntime, path: &str, state: &State, received: &Received) -> any
 
 // Names the instruments of which nothing came.
 fn absent(rt: &HostRuntime, state: &State) -> anyhow::Result<()> {
-    let mut missing = false;
-    for slot in 0..state.told.len() {
+    let mut missing = 0u64;
+    for (slot, told) in state.told.iter().enumerate() {
         if state.named.latest_of(slot) == 0 {
-            let instrument = state.told[slot].instrument;
+            let instrument = told.instrument;
             eprintln!(rt; "books: instrument {instrument} is named by no packet that was taken")?;
-            missing = true;
+            missing = missing.saturating_add(1);
         }
     }
-    if missing {
+    if missing > 0 {
         return Err(anyhow!(
             "an instrument never appears; take it out of --watch, or look for its number"
         ));
@@ -65,12 +63,12 @@ fn absent(rt: &HostRuntime, state: &State) -> anyhow::Result<()> {
 
 // Says where the depth was too small.
 fn shallow(rt: &HostRuntime, state: &State) -> anyhow::Result<()> {
-    let depth = state.depth;
-    if depth == 0 {
+    let Some(depth) = state.depth else {
         return Ok(());
-    }
+    };
+    let orders = depth.orders;
     let deepest = state.named.deepest;
-    if deepest > depth as u64 {
+    if deepest > orders as u64 {
         if deepest <= 1024 {
             eprintln!(rt; "books: a side has {deepest} orders: give --depth {deepest} or more")?;
         } else {
@@ -80,9 +78,9 @@ fn shallow(rt: &HostRuntime, state: &State) -> anyhow::Result<()> {
         }
         return Err(anyhow!("--depth is too small, so that a book got stale"));
     }
-    if state.full {
+    if depth.full {
         eprintln!(rt;
-            "books: a side was full when a book got stale: more than --depth {depth} may keep it longer"
+            "books: a side was full when a book got stale: more than --depth {orders} may keep it longer"
         )?;
     }
     Ok(())
@@ -93,15 +91,11 @@ pub fn verdict(
     rt: &HostRuntime,
     path: &str,
     state: &State,
-    fault: Option<CaptureFault>,
+    whole: Result<(), CaptureFault>,
 ) -> anyhow::Result<()> {
-    damage(rt, path, fault)?;
-    feed(rt, path, state, &state.lanes.first)?;
-    if state.course.second.is_some() {
-        feed(rt, path, state, &state.lanes.second)?;
-    }
-    if state.course.snapshot.is_some() {
-        feed(rt, path, state, &state.lanes.snapshot)?;
+    damage(rt, path, whole)?;
+    for lane in &state.lanes {
+        feed(rt, path, state, &lane.received)?;
     }
     shallow(rt, state)?;
     absent(rt, state)
