@@ -196,11 +196,10 @@ impl<'c> Choosing<'c> {
 
     // The instruments: those asked for, or all that the packets of these destinations name.
     fn instruments(&self, endpoints: &[Option<Endpoint>]) -> anyhow::Result<Vec<u64>> {
-        let mut ids = Vec::new(self.rt.alloc());
         if !self.asked.watch.is_empty() {
-            ids.extend_from_slice(self.asked.watch.as_slice())?;
-            return Ok(ids);
+            return Ok(self.asked.watch.clone()?);
         }
+        let mut ids = Vec::new(self.rt.alloc());
         for endpoint in endpoints.iter().flatten() {
             for id in self.finding.names_at(*endpoint) {
                 if !ids.contains(id) {
@@ -259,7 +258,7 @@ pub fn choose<'c>(
 }
 
 // What to rebuild where all of it is asked for.
-pub fn given(rt: &HostRuntime, asked: &Asked) -> anyhow::Result<Option<Course>> {
+pub fn given(asked: &Asked) -> anyhow::Result<Option<Course>> {
     let snapshot = match asked.snapshot {
         Loop::Unsaid => return Ok(None),
         Loop::Absent => None,
@@ -267,14 +266,12 @@ pub fn given(rt: &HostRuntime, asked: &Asked) -> anyhow::Result<Option<Course>> 
     };
     match (asked.channel, asked.version, asked.feeds) {
         (Some(channel), Some(version), Some(feeds)) if !asked.watch.is_empty() => {
-            let mut watch = Vec::new(rt.alloc());
-            watch.extend_from_slice(asked.watch.as_slice())?;
             Ok(Some(Course {
                 channel,
                 version,
                 feeds,
                 snapshot,
-                watch,
+                watch: asked.watch.clone()?,
             }))
         }
         _ => Ok(None),

@@ -109,7 +109,7 @@ fn rebuild(
 
 // What is asked for, or else found by a first pass.
 fn course(rt: &HostRuntime, asked: &Asked, path: &str, sheet: &Sheet) -> anyhow::Result<Course> {
-    if let Some(course) = given(rt, asked)? {
+    if let Some(course) = given(asked)? {
         return Ok(course);
     }
     let finding = find(rt, path, sheet)?;

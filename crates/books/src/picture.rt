@@ -12,6 +12,7 @@ pub struct Picture {
     coverage: Option<Coverage>,
 }
 
+// kept: sign and shade are of other crates, neither of which stands on the other, so that no `From` can be written here
 fn shade_of(sign: Sign) -> Shade {
     match sign {
         Sign::Stale => Shade::Stale,

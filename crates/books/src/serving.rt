@@ -88,6 +88,7 @@ impl<'p, S: Store + Tells> Pass<'p, S> {
                 state.heard = first.saturating_sub(1);
             }
         }
+        // kept: the number of a slot goes to the receiver and to the store alike
         for slot in 0..self.state.told.len() {
             heard = self.look_slot(slot, time, adopted)?;
         }

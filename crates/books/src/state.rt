@@ -3,7 +3,6 @@ use crate::output::Output;
 use crate::picture::Picture;
 use crate::told::Told;
 use changes::named::Named;
-use layout::kinds::Kind;
 use layout::sheet::Sheet;
 use packet::checked::Checked;
 use packet::rules::check;
@@ -49,7 +48,7 @@ impl State {
         let statistics = sheet
             .templates
             .iter()
-            .filter(|t| t.layout.kind() == Kind::Stat)
+            .filter(|t| t.layout.is_stat())
             .count();
         let told = course
             .watch
