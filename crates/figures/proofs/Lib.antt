@@ -1,1 +1,1 @@
-mod Same
+pub mod Same

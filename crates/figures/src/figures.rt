@@ -1,4 +1,4 @@
-ghost use Rattle.std.specs.Prelude.{◌≡◌, ◌≢◌, ◌↔◌, IsTrue, Some};
+ghost use Rattle.std.specs.Prelude.{◌≡◌, false, Some};
 
 // the order at position 1 of a side: its price, where it has one, and its size
 #[derive(Clone, Copy, Debug, PartialEq, Eq)]
@@ -25,7 +25,8 @@ pub struct Figures {
 impl Figures {
     // Whether a book with these figures is told otherwise than before.
     pub fn is_new(&self, told: Option<Figures>) -> bool
-        ensures { IsTrue result ↔ (told ≢ Some self.now) }
+        ensures new { told ≡ Some self.now → result ≡ false }
+        ensures same { result ≡ false → told ≡ Some self.now }
     {
         told != Some(*self)
     }

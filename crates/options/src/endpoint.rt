@@ -12,11 +12,11 @@ fn address_in(word: &[u8]) -> Option<u32>
     let (first, rest) = cut(word, b'.')?;
     let (second, rest) = cut(rest, b'.')?;
     let (third, fourth) = cut(rest, b'.')?;
-    let a = u32::from(decimal_in::<u8>(first)?);
-    let b = u32::from(decimal_in::<u8>(second)?);
-    let c = u32::from(decimal_in::<u8>(third)?);
-    let d = u32::from(decimal_in::<u8>(fourth)?);
-    Some(((a * 256 + b) * 256 + c) * 256 + d)
+    let a = decimal_in(first)?;
+    let b = decimal_in(second)?;
+    let c = decimal_in(third)?;
+    let d = decimal_in(fourth)?;
+    Some(u32::from_be_bytes([a, b, c, d]))
 }
 
 // The address and port that a word says.

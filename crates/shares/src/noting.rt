@@ -6,21 +6,17 @@ ghost use Rattle.shares.specs.Stands.{Stands};
 use crate::share::{Share, Stretch};
 use recovery::answers::Sign;
 
-// A stretch with so many packets more, at the first and the last of which these numbers were heard.
-fn further(before: Option<Stretch>, times: u64, from: u64, to: u64) -> Stretch
-    ensures { result ≡ further before times from to }
+// A stretch with the packets of the next behind its own.
+fn further(before: Option<Stretch>, next: Stretch) -> Stretch
+    ensures { result ≡ further before next.packets next.from next.to }
 {
     match before {
         Some(stretch) => Stretch {
-            packets: stretch.packets.saturating_add(times),
-            to,
+            packets: stretch.packets.saturating_add(next.packets),
+            to: next.to,
             ..stretch
         },
-        None => Stretch {
-            packets: times,
-            from,
-            to,
-        },
+        None => next,
     }
 }
 
@@ -34,6 +30,7 @@ fn longer(longest: Option<Stretch>, stretch: Stretch) -> Stretch
     }
 }
 
+// kept: many rows of marks leave the same shares, so that there is no one model
 impl Share {
     // No packet noted yet.
     pub fn new() -> Share
@@ -48,12 +45,14 @@ impl Share {
         ensures value { self.new ≡ noted self.old sign times from to }
         ensures law { (marks : List Marked) → Stands self.old marks → Stands self.new (replicate times sign ++ marks) }
     {
-        self.count(sign, times, from, to);
+        let packets = times;
+        self.count(sign, Stretch { packets, from, to });
     }
 
-    fn count(&mut self, sign: Sign, times: u64, from: u64, to: u64)
-        ensures { self.new ≡ noted self.old sign times from to }
+    fn count(&mut self, sign: Sign, stretch: Stretch)
+        ensures { self.new ≡ noted self.old sign stretch.packets stretch.from stretch.to }
     {
+        let times = stretch.packets;
         if times == 0 {
             return;
         }
@@ -68,7 +67,7 @@ impl Share {
             }
             Sign::Stale => {
                 self.stale = self.stale.saturating_add(times);
-                let stretch = further(self.now_stale, times, from, to);
+                let stretch = further(self.now_stale, stretch);
                 self.now_stale = Some(stretch);
                 self.longest = Some(longer(self.longest, stretch));
             }
@@ -86,6 +85,7 @@ impl Share {
 }
 
 // A part of a whole in hundredths of a percent, rounded down; 0 of nothing.
+// kept: scaled of coverage cuts a part at the whole and fits 64 bits, where this does neither
 pub fn hundredths(part: u64, whole: u64) -> u128
     ensures { result ≡ (if nat_eq whole 0 then 0 else part * 10000 / whole) }
 {
