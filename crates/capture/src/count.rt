@@ -14,13 +14,7 @@ impl Tally {
     pub fn new() -> Tally
         ensures { result ≡ nothing }
     {
-        Tally {
-            datagrams: 0,
-            cut: 0,
-            fragments: 0,
-            other: 0,
-            fault: None,
-        }
+        Tally::default()
     }
 
     // Counts what a record holds; a count stops at the largest number.

@@ -1,6 +1,7 @@
 use std::fmt;
 
 // an IPv4 address and a UDP port
+// kept: the address is one number in every definition of a datagram, and std's SocketAddrV4 has four
 #[derive(Clone, Copy, Debug, PartialEq, Eq)]
 pub struct Endpoint {
     pub address: u32,

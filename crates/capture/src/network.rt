@@ -10,6 +10,7 @@ use crate::order::ByteOrder;
 use crate::read::{four, two};
 
 // The datagram of a UDP header and what is behind it.
+// kept: each layer cuts the bytes, and the time goes through as it is, so that a type of both would be made anew in each
 fn udp<'a>(time: u64, address: u32, segment: &'a [u8]) -> Frame<'a>
     ensures { view result ≡ udp_held time address segment.now }
 {

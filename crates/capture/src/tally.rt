@@ -1,7 +1,7 @@
 use crate::fault::CaptureFault;
 
 // how many records of each sort were read, and the fault that ended the file
-#[derive(Clone, Copy, Debug, PartialEq, Eq)]
+#[derive(Clone, Copy, Debug, Default, PartialEq, Eq)]
 pub struct Tally {
     pub datagrams: u64,
     pub cut: u64,

@@ -1,6 +1,6 @@
 #[cfg(test)]
 mod tests {
-    use crate::answer::{Told, first, holds};
+    use crate::answer::{cut, first, got, holds};
     use crate::build::*;
     use capture::count::count;
     use capture::fault::CaptureFault;
@@ -13,20 +13,18 @@ mod tests {
     use capture::tally::Tally;
     use std::test::Fail;
 
-    const GOT: Told = Told::Datagram(5, 0xef370101, 10055, 0x070809);
-
     #[test]
     fn frames_by_kind(rt: HostRuntime) -> Result<(), Fail> {
         let heap = rt.alloc();
         let plain = ethernet(heap, &[8, 0], &PACKET)?;
-        assert_eq!(rt; holds(Link::Ethernet, plain.as_slice()), GOT);
-        assert_eq!(rt; holds(Link::RawIp, &PACKET), GOT);
+        assert_eq!(rt; holds(Link::Ethernet, plain.as_slice()), got(5));
+        assert_eq!(rt; holds(Link::RawIp, &PACKET), got(5));
         let tagged = ethernet(heap, &[0x81, 0, 0, 7, 0x88, 0xa8, 0, 9, 8, 0], &PACKET)?;
-        assert_eq!(rt; holds(Link::Ethernet, tagged.as_slice()), GOT);
+        assert_eq!(rt; holds(Link::Ethernet, tagged.as_slice()), got(5));
         let torn = ethernet(heap, &[0x81, 0, 0], &[])?;
-        assert_eq!(rt; holds(Link::Ethernet, torn.as_slice()), Told::Cut);
+        assert_eq!(rt; holds(Link::Ethernet, torn.as_slice()), Frame::Cut);
         let arp = ethernet(heap, &[8, 6], &PACKET)?;
-        assert_eq!(rt; holds(Link::Ethernet, arp.as_slice()), Told::NoUdp);
+        assert_eq!(rt; holds(Link::Ethernet, arp.as_slice()), Frame::NoUdp);
         Ok(())
     }
 
@@ -34,19 +32,19 @@ mod tests {
     fn packets_by_kind(rt: HostRuntime) -> Result<(), Fail> {
         let mut tcp = PACKET;
         tcp[9] = 6;
-        assert_eq!(rt; holds(Link::RawIp, &tcp), Told::NoUdp);
+        assert_eq!(rt; holds(Link::RawIp, &tcp), Frame::NoUdp);
         let mut first_part = PACKET;
         first_part[6] = 32;
-        assert_eq!(rt; holds(Link::RawIp, &first_part), Told::Fragment);
+        assert_eq!(rt; holds(Link::RawIp, &first_part), Frame::Fragment);
         let mut last_part = PACKET;
         last_part[7] = 1;
-        assert_eq!(rt; holds(Link::RawIp, &last_part), Told::Fragment);
+        assert_eq!(rt; holds(Link::RawIp, &last_part), Frame::Fragment);
         let mut long = PACKET;
         long[3] = 34;
-        assert_eq!(rt; holds(Link::RawIp, &long), Told::Cut);
+        assert_eq!(rt; holds(Link::RawIp, &long), Frame::Cut);
         let mut options = PACKET;
         options[0] = 70;
-        assert_eq!(rt; holds(Link::RawIp, &options), Told::Cut);
+        assert_eq!(rt; holds(Link::RawIp, &options), Frame::Cut);
         let mut whole = options.to_vec(rt.alloc())?;
         whole.insert(20, 1)?;
         whole.insert(20, 1)?;
@@ -54,7 +52,7 @@ mod tests {
         whole.insert(20, 1)?;
         assert!(rt; whole.len() == 37);
         whole[3] = 35;
-        assert_eq!(rt; holds(Link::RawIp, whole.as_slice()), GOT);
+        assert_eq!(rt; holds(Link::RawIp, whole.as_slice()), got(5));
         Ok(())
     }
 
@@ -71,16 +69,10 @@ mod tests {
         let heap = rt.alloc();
         let mut big = header(heap, ByteOrder::Big, 0xa1b2c3d4, 101)?;
         record(&mut big, ByteOrder::Big, 3, &PACKET, 33)?;
-        assert_eq!(rt;
-            first(big.as_slice()),
-            Ok(Told::Datagram(2000003000, 0xef370101, 10055, 0x070809))
-        );
+        assert_eq!(rt; first(big.as_slice()), Ok(Some(got(2000003000))));
         let mut nano = header(heap, ByteOrder::Little, 0xa1b23c4d, 228)?;
         record(&mut nano, ByteOrder::Little, 3, &PACKET, 33)?;
-        assert_eq!(rt;
-            first(nano.as_slice()),
-            Ok(Told::Datagram(2000000003, 0xef370101, 10055, 0x070809))
-        );
+        assert_eq!(rt; first(nano.as_slice()), Ok(Some(got(2000000003))));
         let unknown = header(heap, ByteOrder::Little, 0xa1b2c3d4, 113)?;
         assert_eq!(rt; format(unknown.as_slice()), Err(CaptureFault::UnknownLink));
         Ok(())
@@ -90,7 +82,7 @@ mod tests {
     fn records_cut_or_too_long(rt: HostRuntime) -> Result<(), Fail> {
         let mut file = header(rt.alloc(), ByteOrder::Little, 0xa1b2c3d4, 101)?;
         record(&mut file, ByteOrder::Little, 3, &PACKET, 34)?;
-        assert_eq!(rt; first(file.as_slice()), Ok(Told::Cut));
+        assert_eq!(rt; first(file.as_slice()), Ok(Some(cut())));
         assert!(rt; file.len() == 73);
         file[34] = 5;
         assert_eq!(rt; first(file.as_slice()), Err(CaptureFault::RecordLong(24)));

@@ -18,16 +18,7 @@ fn place_of(kind: Option<Kind>) -> usize
     ensures value { result ≡ place_of kind }
     ensures within { result < 8 }
 {
-    match kind {
-        Some(Kind::Order) => 0,
-        Some(Kind::Delete) => 1,
-        Some(Kind::Mass) => 2,
-        Some(Kind::Empty) => 3,
-        Some(Kind::Stat) => 4,
-        Some(Kind::Header) => 5,
-        Some(Kind::Entries) => 6,
-        None => 7,
-    }
+    kind.map_or(7, |kind| kind as usize)
 }
 
 impl Counts {

@@ -1,5 +1,8 @@
-ghost use Rattle.std.specs.Prelude.{◌≡◌, ℕ, ◌<◌, true, false, length, slice_index_or, IfSome, IsNone};
+ghost use Rattle.std.specs.Prelude.{◌≡◌, ℕ, ◌<◌, true, false, length, slice_index_or, vec_len, IfSome, IsNone, IfOk};
 ghost use Rattle.std.specs.Fn.{FnReturnsAt};
+ghost use Rattle.std.specs.Option.{ForNone};
+
+use std::alloc::AllocError;
 
 // The place of an item that passes a test: the one at `last`, or else the last that does; `None` where none does.
 pub fn find<T, F: Fn(&T) -> bool>(items: &[T], last: usize, passes: F) -> Option<usize>
@@ -21,4 +24,23 @@ pub fn find<T, F: Fn(&T) -> bool>(items: &[T], last: usize, passes: F) -> Option
         rest = front;
     }
     None
+}
+
+// The place that was found, or else that of an item that is made and put behind the others.
+pub(crate) fn found_or_put<T: Drop, M: FnOnce() -> T>(
+    items: &mut Vec<T>,
+    found: Option<usize>,
+    make: M,
+) -> Result<usize, AllocError>
+    requires there { IfSome found (λ i. i < vec_len items.old) }
+    requires callable { ForNone found (M.pre make) }
+    ensures { IfOk result (λ i. i < vec_len items.new) }
+{
+    match found {
+        Some(place) => Ok(place),
+        None => {
+            items.push(make())?;
+            Ok(items.len() - 1)
+        }
+    }
 }

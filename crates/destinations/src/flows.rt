@@ -5,7 +5,7 @@ ghost use Rattle.destinations.specs.Noting.{is_flow, packets_after, kinds_after,
 
 use crate::counts::Counts;
 use crate::destination::{Destination, Flow};
-use crate::find::find;
+use crate::find::{find, found_or_put};
 use capture::endpoint::Endpoint;
 use layout::sheet::Sheet;
 use numbering::stream::Stream;
@@ -56,18 +56,17 @@ impl Destination {
             version,
             number,
         } = head;
-        let place = match self.flow(channel, version) {
-            Some(place) => place,
-            None => {
-                self.flows.push(Flow {
-                    channel,
-                    version,
-                    first: index,
-                    stream: Stream::new(heap),
-                })?;
-                self.flows.len() - 1
-            }
-        };
+        let found = self.flow(channel, version);
+        let place = found_or_put(
+            &mut self.flows,
+            found,
+            || Flow {
+                channel,
+                version,
+                first: index,
+                stream: Stream::new(heap),
+            },
+        )?;
         self.last = place;
         self.flows[place].stream.note(number)
     }

@@ -71,10 +71,10 @@ impl<const N: usize> Refusals<N> {
     pub fn of(&self, reason: Reason) -> Refused
         ensures { result ≡ slice_index_or self.now.all (number_of reason - 1) never }
     {
-        match self.all.get(usize::from(reason.number()) - 1) {
-            Some(refused) => *refused,
-            None => Refused::never(),
-        }
+        self.all
+            .get(usize::from(reason.number()) - 1)
+            .copied()
+            .unwrap_or(Refused::never())
     }
 
     // How often something was refused, for whatever reason.

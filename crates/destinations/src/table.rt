@@ -4,7 +4,7 @@ ghost use Rattle.capture.specs.Held.{view};
 ghost use Rattle.capture.specs.Tally.{nothing, noted};
 
 use crate::destination::Destination;
-use crate::find::find;
+use crate::find::{find, found_or_put};
 use capture::endpoint::Endpoint;
 use capture::frame::{Datagram, Frame};
 use capture::tally::Tally;
@@ -26,6 +26,7 @@ fn is_destination(destination: &Destination, to: Endpoint) -> bool
     destination.to == to
 }
 
+// kept: the heap and the sheet are the caller's, and a table that held the sheet would have its lifetime wherever it is named
 impl Table {
     // Nothing read yet.
     pub fn new(heap: Global) -> Table
@@ -61,13 +62,8 @@ impl Table {
         ensures { self.new.tally ≡ self.old.tally }
     {
         let to = datagram.to;
-        let place = match self.destination(to) {
-            Some(place) => place,
-            None => {
-                self.destinations.push(Destination::new(heap, to))?;
-                self.destinations.len() - 1
-            }
-        };
+        let found = self.destination(to);
+        let place = found_or_put(&mut self.destinations, found, || Destination::new(heap, to))?;
         self.last = place;
         self.destinations[place].note(heap, sheet, datagram.payload, self.records)
     }

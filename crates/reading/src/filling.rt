@@ -6,6 +6,7 @@ use crate::window::Window;
 use capture::fault::CaptureFault;
 use capture::format::Format;
 use capture::header::format;
+use capture::part::Part;
 use std::alloc::{AllocError, Global};
 use std::fs::File;
 use std::io;
@@ -77,13 +78,15 @@ impl Reader {
 
     // The bytes that are held, whose records have that format; `last` says that the file ends with them.
     pub fn window(&self, format: Format, last: bool) -> Window<'_>
-        ensures { (result.format ≡ format) × (result.bytes.now ≡ held self.now) × (result.offset ≡ self.now.offset) × (result.last ≡ last) × (result.at ≡ 0) }
+        ensures { (result.part.format ≡ format) × (result.part.bytes.now ≡ held self.now) × (result.part.offset ≡ self.now.offset) × (result.part.last ≡ last) × (result.at ≡ 0) }
     {
         Window {
-            format,
-            bytes: &self.buffer.as_slice()[0..self.held],
-            offset: self.offset,
-            last,
+            part: Part {
+                format,
+                bytes: &self.buffer.as_slice()[0..self.held],
+                offset: self.offset,
+                last,
+            },
             at: 0,
         }
     }

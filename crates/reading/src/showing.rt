@@ -10,17 +10,22 @@ use capture::step::Step;
 impl<'w> Window<'w> {
     // The record that the file holds next; `None` where more bytes are wanted for it, or at the end of the file.
     pub fn next(&mut self) -> Result<Option<Frame<'w>>, CaptureFault>
-        ensures shows { self.old.offset + length self.old.bytes.now < 2 ^ 64 → (rest : List ℕ) → (self.old.last ≡ true → rest ≡ []) → Shows self.old rest result self.new }
+        ensures shows { self.old.part.offset + length self.old.part.bytes.now < 2 ^ 64 → (rest : List ℕ) → (self.old.part.last ≡ true → rest ≡ []) → Shows self.old rest result self.new }
         ensures moves { self.old.at + moves result 16 ≤ self.new.at }
-        ensures same { (self.new.bytes.now ≡ self.old.bytes.now) × (self.new.offset ≡ self.old.offset) × (self.new.last ≡ self.old.last) × (self.new.format ≡ self.old.format) }
+        ensures same { self.new.part ≡ self.old.part }
     {
-        let bytes = self.bytes;
+        let Part {
+            format,
+            bytes,
+            offset,
+            last,
+        } = self.part;
         let at = self.at;
         let part = Part {
-            format: self.format,
+            format,
             bytes: &bytes[at..],
-            offset: self.offset.saturating_add(at as u64),
-            last: self.last,
+            offset: offset.saturating_add(at as u64),
+            last,
         };
         match part.step()? {
             Step::Taken(frame, size) => {
@@ -36,5 +41,12 @@ impl<'w> Window<'w> {
         ensures { result ≡ self.now.at }
     {
         self.at
+    }
+
+    // Whether the file ends with the window.
+    pub fn is_last(&self) -> bool
+        ensures { result ≡ self.now.part.last }
+    {
+        self.part.last
     }
 }

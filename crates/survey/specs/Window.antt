@@ -12,5 +12,5 @@ use Rattle.reading.specs.Window.{ahead}
 abbrev pub GoesOn : Window → List ℕ → Tally → Tally → Window → Option CaptureFault → Type 0
 GoesOn window rest before after shown None =
     (tallied before (ahead window rest) ≡ tallied after (ahead shown rest))
-    × (window.last ≡ true → tallied before (ahead window rest) ≡ after)
+    × (window.part.last ≡ true → tallied before (ahead window rest) ≡ after)
 GoesOn window rest before after shown (Some e) = tallied before (ahead window rest) ≡ ended after e

@@ -14,9 +14,9 @@ pub fn drain(
     sheet: &Sheet,
     window: &mut Window,
 ) -> Result<Option<CaptureFault>, AllocError>
-    ensures tally { IfOk result (λ fault. window.old.offset + length window.old.bytes.now < 2 ^ 64 → (rest : List ℕ) → (window.old.last ≡ true → rest ≡ []) → GoesOn window.old rest table.old.tally table.new.tally window.new fault) }
+    ensures tally { IfOk result (λ fault. window.old.part.offset + length window.old.part.bytes.now < 2 ^ 64 → (rest : List ℕ) → (window.old.part.last ≡ true → rest ≡ []) → GoesOn window.old rest table.old.tally table.new.tally window.new fault) }
     ensures onward { window.old.at ≤ window.new.at }
-    ensures same { (window.new.bytes.now ≡ window.old.bytes.now) × (window.new.offset ≡ window.old.offset) × (window.new.last ≡ window.old.last) × (window.new.format ≡ window.old.format) }
+    ensures same { window.new.part ≡ window.old.part }
 {
     loop {
         match window.next() {

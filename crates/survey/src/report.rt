@@ -117,3 +117,17 @@ pub fn write_total(out: &mut String, table: &Table) -> anyhow::Result<()> {
     figure(out, "  fragments", table.tally.fragments)?;
     figure(out, "  other", table.tally.other)
 }
+
+#[cfg(test)]
+mod tests {
+    use super::KINDS;
+    use layout::kinds::Kind;
+
+    // Each kind is listed once, at its place, and the templates of none come last.
+    #[test]
+    fn kinds_at_their_places(rt: HostRuntime) {
+        for (place, kind) in KINDS.iter().enumerate() {
+            assert!(rt; kind.map_or(7, |kind: Kind| kind as usize) == place);
+        }
+    }
+}
