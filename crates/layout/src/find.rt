@@ -14,12 +14,23 @@ fn first_with(templates: &[Template], id: u16) -> Option<&Template>
     templates.iter().find(|t| t.id == id)
 }
 
+// The first of some templates with that number, which is mostly the first of all.
+fn hinted(templates: &[Template], id: u16) -> Option<&Template>
+    ensures { option_map (λ t. t.now) result ≡ first_of (λ (t : Template). t.id == id) templates.now }
+{
+    match templates {
+        [first, ..] if first.id == id => Some(first),
+        [_, behind @ ..] => first_with(behind, id),
+        [] => None,
+    }
+}
+
 impl Sheet {
     // The template with that number, where the sheet lists it.
     pub fn template(&self, id: u16) -> Option<&Template>
         ensures { MatchOption result (find self.now.templates.items id ≡ None) (λ t. find self.now.templates.items id ≡ Some t.now.layout) }
     {
         let start = usize::from(self.first[usize::from(id % 256)]);
-        first_with(self.templates.as_slice().get(start..)?, id)
+        hinted(self.templates.as_slice().get(start..)?, id)
     }
 }

@@ -9,7 +9,7 @@ pub struct PacketHead {
 // what a message's header says of its length, its root block and its template
 #[derive(Clone, Copy)]
 pub struct MessageHead {
-    pub length: u16,
+    pub length: usize,
     pub block: u16,
     pub template: u16,
 }

@@ -29,8 +29,8 @@ fn head_check(part: &Part) -> Result<MessageHead, FrameFault>
     let [l0, l1, e0, e1, b0, b1, t0, t1, s0, s1, _, _, ..] = rest else {
         return Err(FrameFault::Torn(at));
     };
-    let length = u16::from_le_bytes([*l0, *l1]);
-    if length < 12 || usize::from(length) > rest.len() {
+    let length = usize::from(u16::from_le_bytes([*l0, *l1]));
+    if length < 12 || length > rest.len() {
         return Err(FrameFault::Length(at));
     }
     if u16::from_le_bytes([*e0, *e1]) != 0xEB50 {
@@ -91,7 +91,6 @@ fn message_check(sheet: &Sheet, part: &Part) -> Result<usize, FrameFault>
         block,
         template,
     } = head_check(part)?;
-    let length = usize::from(length);
     let message = Part {
         bytes: &part.bytes[..length],
         at: part.at,

@@ -71,7 +71,7 @@ pub(crate) fn head_of(rest: &[u8]) -> Option<MessageHead>
         return None;
     };
     Some(MessageHead {
-        length: u16::from_le_bytes([*l0, *l1]),
+        length: usize::from(u16::from_le_bytes([*l0, *l1])),
         block: u16::from_le_bytes([*b0, *b1]),
         template: u16::from_le_bytes([*t0, *t1]),
     })
@@ -98,7 +98,6 @@ impl<'a, 's> Walk<'a, 's> {
             block: _,
             template,
         } = head_of(rest)?;
-        let length = usize::from(length);
         let (part, after) = rest.split_at(length);
         self.rest = after;
         self.at += length;

@@ -14,16 +14,13 @@ judged s bs at h l r a e b d =
     ap (λ r. and_then r (λ _. Ok h.length)) d
     ∙ (ap (λ o. and_then (layout_check o (take h.length bs) h.block at) (λ _. Ok h.length)) (sym b) ∙ sym (message_by_head s bs at h a e))
 
-measured : (s : Sheet) (bs : List ℕ) (at n : ℕ) (h : MessageHead) (l : Layout) (r : Result (Unit {0}) FrameFault) → n ≡ h.length → is_ok (head_check bs at) ≡ true → h ≡ message_head bs → find (vec_items s.templates) h.template ≡ Some l → r ≡ layout_check (Some l) (take n bs) h.block at → and_then r (λ _. Ok n) ≡ message_check s bs at
-measured s bs at n h l r m a e b d = ap (λ k. and_then r (λ _. Ok k)) m ∙ judged s bs at h l r a e b (d ∙ ap (λ k. layout_check (Some l) (take k bs) h.block at) m)
-
 pub returns-in_err-layout_check : goal.returns-in_err-layout_check
 returns-in_err-layout_check c =
     let p = err_from_is_err_and c.from_residual-in_err-layout_check.result c.from_residual-in_err-layout_check.ensures.1 in
     let said = c.in_ok-length.ensures.value in
-    rw (p.1, p.2) (record { bounds = tt; value = measured c.args.sheet.now c.args.part.now.bytes.now c.args.part.now.at c.from-length.result c.in_ok-length.field-0 c.in-Some.t.now.layout (Err c.in_err-layout_check.field-0.0) c.from-length.ensures said.0 said.1 c.in-Some.ensures c.in_err-layout_check.ensures })
+    rw (p.1, p.2) (record { bounds = tt; value = judged c.args.sheet.now c.args.part.now.bytes.now c.args.part.now.at c.in_ok-length.field-0 c.in-Some.t.now.layout (Err c.in_err-layout_check.field-0.0) said.0 said.1 c.in-Some.ensures c.in_err-layout_check.ensures })
 
 pub returns-in_ok-layout_check : goal.returns-in_ok-layout_check
 returns-in_ok-layout_check c =
     let said = c.in_ok-length.ensures.value in
-    record { bounds = search rules; value = measured c.args.sheet.now c.args.part.now.bytes.now c.args.part.now.at c.from-length.result c.in_ok-length.field-0 c.in-Some.t.now.layout (Ok tt) c.from-length.ensures said.0 said.1 c.in-Some.ensures c.in_ok-layout_check.ensures }
+    record { bounds = search rules; value = judged c.args.sheet.now c.args.part.now.bytes.now c.args.part.now.at c.in_ok-length.field-0 c.in-Some.t.now.layout (Ok tt) said.0 said.1 c.in-Some.ensures c.in_ok-layout_check.ensures }

@@ -11,4 +11,4 @@ pub returns : goal.returns
 returns c =
     let s = c.args.self.now in
     let start = find-start s.templates.items s.first c.args.id c.from.result c.from-start.result s.near c.from.ensures c.from-start.ensures in
-    find_by s.templates.items _ c.args.id _ c.first_with.ensures (find-rest s.templates.items _ _ c.from-start.result c.args.id c.as_slice.ensures.value c.in_ok-get.ensures.lookup.0.2 start)
+    find_by s.templates.items _ c.args.id _ c.hinted.ensures (find-rest s.templates.items _ _ c.from-start.result c.args.id c.as_slice.ensures.value c.in_ok-get.ensures.lookup.0.2 start)

@@ -20,12 +20,12 @@ invariant_of-self c =
     let bs = c.args.self.now.rest.now in
     let at = c.args.self.now.at in
     let f = front s bs at (omega (arith, h.0)) c.args.self.now.whole in
-    let n = c.from-length.ensures ∙ ap (λ x. x.length) h.1 in
+    let n = ap (λ x. x.length) h.1 in
     let near = c.args.self.now.near in
     let back = c.split_at.ensures.back in
     let long = c.split_at.ensures.back_len in
     record {
-      whole = subst (λ l. is_ok (walk_check s 0 l (at + c.from-length.result)) ≡ true) (sym back) (subst (λ k. is_ok (walk_check s 0 (drop k bs) (at + k)) ≡ true) (sym n) f.onward);
+      whole = subst (λ l. is_ok (walk_check s 0 l (at + c.in_ok-length.field-0.length)) ≡ true) (sym back) (subst (λ k. is_ok (walk_check s 0 (drop k bs) (at + k)) ≡ true) (sym n) f.onward);
       near = omega arith;
     }
 
@@ -35,6 +35,6 @@ returns c =
     let long = c.split_at.ensures.back_len in
     record {
       sheet = refl;
-      step = handed c.args.self.now.sheet.now c.args.self.now.rest.now c.args.self.now.at c.in_ok-length.field-0 _ c.split_at.result.0.now c.split_at.result.1.now c.args.self.now.whole h.0 h.1 (c.split_at.ensures.front ∙ ap (λ k. take k c.args.self.now.rest.now) c.from-length.ensures) (c.split_at.ensures.back ∙ ap (λ k. drop k c.args.self.now.rest.now) c.from-length.ensures) (same_layout (λ t. t.now.layout) c.template.result _ _ c.told.ensures.1 c.template.ensures) c.told.ensures.0;
+      step = handed c.args.self.now.sheet.now c.args.self.now.rest.now c.args.self.now.at c.in_ok-length.field-0 _ c.split_at.result.0.now c.split_at.result.1.now c.args.self.now.whole h.0 h.1 c.split_at.ensures.front c.split_at.ensures.back (same_layout (λ t. t.now.layout) c.template.result _ _ c.told.ensures.1 c.template.ensures) c.told.ensures.0;
       place = omega arith;
     }
