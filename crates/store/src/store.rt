@@ -57,9 +57,10 @@ pub trait Store {
         ensures after { model self.new ≡ with_slot (kind (setup self.old)) (model self.old) slot (kind (setup self.old)).fresh }
         ensures stays { setup self.new ≡ setup self.old };
 
-    // Copies the staged value into a slot that is there.
+    // Copies the staged value, to which nothing is owed, into a slot that is there.
     fn adopt_at(&mut self, slot: usize)
-        requires { slot < length (model self.old).slots }
+        requires there { slot < length (model self.old).slots }
+        requires whole { is_whole (kind (setup self.old)) (model self.old) ≡ true }
         ensures after { model self.new ≡ with_slot (kind (setup self.old)) (model self.old) slot (model self.old).staged }
         ensures stays { setup self.new ≡ setup self.old };
 
