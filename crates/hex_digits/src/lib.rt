@@ -1,10 +1,10 @@
 #![tactic(auto)]
 
-ghost use Rattle.std.specs.Prelude.{◌≡◌, IfOk, vec_items};
+ghost use Rattle.std.specs.Prelude.{◌≡◌, [], IfOk};
 ghost use Rattle.std.specs.Option.{option_map};
 ghost use Rattle.hex_digits.specs.Hex.{digit_of, byte_of, digits_of, word_bytes};
 
-use std::alloc::{AllocError, Global};
+use std::alloc::AllocError;
 
 fn digit(c: u8) -> Option<u8>
     ensures { result ≡ digit_of c }
@@ -25,29 +25,37 @@ fn byte(a: u8, b: u8) -> Option<u8>
     Some(x * 16 + y)
 }
 
-// The bytes that a word stands for, where it stands for some: digits, at least two, or a lone `-` for no byte.
-pub fn decode(heap: Global, word: &[u8]) -> Result<Option<Vec<u8>>, AllocError>
-    ensures { IfOk result (λ bytes. option_map vec_items bytes ≡ word_bytes word.now) }
+// The bytes that a word stands for, where it stands for some: digits, at least two, or a lone `-` for no byte. They are written into
+// `room`, in the place of what it held, so that words that follow one another ask for no memory of their own.
+pub fn decode<'r>(
+    word: &[u8],
+    room: &'r mut Vec<u8>,
+) -> Result<Option<&'r [u8]>, AllocError>
+    ensures { IfOk result (λ bytes. option_map (λ b. b.now) bytes ≡ word_bytes word.now) }
 {
+    room.clear();
     match word {
-        b"-" => Ok(Some(Vec::new(heap))),
+        b"-" => Ok(Some(room.as_slice())),
         [] | [_] => Ok(None),
-        _ => digits(heap, word),
+        _ => digits(word, room),
     }
 }
 
-// The bytes of an even number of digits.
-fn digits(heap: Global, word: &[u8]) -> Result<Option<Vec<u8>>, AllocError>
-    ensures { IfOk result (λ bytes. option_map vec_items bytes ≡ digits_of word.now) }
+// The bytes of an even number of digits, written into room that is empty.
+fn digits<'r>(
+    word: &[u8],
+    room: &'r mut Vec<u8>,
+) -> Result<Option<&'r [u8]>, AllocError>
+    requires { room.old.items ≡ [] }
+    ensures { IfOk result (λ bytes. option_map (λ b. b.now) bytes ≡ digits_of word.now) }
 {
-    let mut bytes = Vec::with_capacity(heap, word.len() / 2)?;
     let mut left = word;
     while let [a, b, rest @ ..] = left {
         let Some(byte) = byte(*a, *b) else {
             return Ok(None);
         };
-        bytes.push(byte)?;
+        room.push(byte)?;
         left = rest;
     }
-    Ok(left.is_empty().then_some(bytes))
+    Ok(left.is_empty().then_some(room.as_slice()))
 }

@@ -10,7 +10,7 @@ use orders::side::Side;
 use replay::call::Call;
 use replay::desk::Desk;
 use replay::tape::Tape;
-use std::alloc::{AllocError, Global};
+use std::alloc::AllocError;
 use store::store::Store;
 
 // how many calls wait at most, and how many bytes there are at most when another is added
@@ -26,11 +26,11 @@ pub struct Service<'s, S> {
     pub tape: Tape,
 }
 
-// Puts the call that a command makes of the receiver on a tape.
-fn tape_call(tape: &mut Tape, heap: Global, command: Command) -> Result<(), LineFault> {
+// Puts the call that a command makes of the receiver on a tape; its bytes are read in that room.
+fn tape_call(tape: &mut Tape, room: &mut Vec<u8>, command: Command) -> Result<(), LineFault> {
     match command {
-        Command::Inc(word) => tape.add(Call::Incremental(bytes_of(heap, word)?.as_slice()))?,
-        Command::Snap(word) => tape.add(Call::Snapshot(bytes_of(heap, word)?.as_slice()))?,
+        Command::Inc(word) => tape.add(Call::Incremental(bytes_of(word, room)?))?,
+        Command::Snap(word) => tape.add(Call::Snapshot(bytes_of(word, room)?))?,
         Command::Join => tape.add(Call::Join)?,
         Command::Leave => tape.add(Call::Leave)?,
         Command::Ask(id) => tape.add(Call::Question(id))?,
@@ -86,7 +86,7 @@ impl<'s, S: Store + Shows> Service<'s, S> {
         }
         let command = parse(line);
         if let Some(command) = command {
-            match tape_call(&mut self.tape, session.heap, command) {
+            match tape_call(&mut self.tape, &mut session.room, command) {
                 Ok(()) => return Ok(None),
                 Err(LineFault::Unknown) => {}
                 Err(fault) => return Err(fault),
@@ -108,8 +108,8 @@ impl<'s, S: Store + Shows> Service<'s, S> {
         match command {
             Command::Shelf(length) => self.resize(session, length)?,
             Command::Poke(at, word) => {
-                let bytes = bytes_of(session.heap, word)?;
-                poke(self.shelf.as_mut_slice(), at, &bytes)?;
+                let bytes = bytes_of(word, &mut session.room)?;
+                poke(self.shelf.as_mut_slice(), at, bytes)?;
                 writeln!(&mut session.out, "poked")?;
             }
             Command::Shelfsum => {

@@ -13,19 +13,20 @@ use refusal::Refusal;
 use sheet_text::filling::fill;
 use std::alloc::{AllocError, Global};
 
-// what the commands of a trace work on, besides a receiver: the sheet in force, the store that the next opening gets, and the answers
-// that are not printed yet
+// what the commands of a trace work on, besides a receiver: the sheet in force, the store that the next opening gets, the answers
+// that are not printed yet, and room for the bytes of a word
 #[derive(Drop)]
 pub struct Session {
     pub heap: Global,
     sheet: Option<Sheet>,
     choice: Option<Choice>,
     pub out: String,
+    pub room: Vec<u8>,
 }
 
-// The bytes that a word of hexadecimal digits stands for.
-pub fn bytes_of(heap: Global, word: &[u8]) -> Result<Vec<u8>, LineFault> {
-    hex_digits::decode(heap, word)?.ok_or(LineFault::Unknown)
+// The bytes that a word of hexadecimal digits stands for, written into that room.
+pub fn bytes_of<'r>(word: &[u8], room: &'r mut Vec<u8>) -> Result<&'r [u8], LineFault> {
+    hex_digits::decode(word, room)?.ok_or(LineFault::Unknown)
 }
 
 impl Session {
@@ -35,6 +36,7 @@ impl Session {
             sheet: None,
             choice: None,
             out: String::new(heap),
+            room: Vec::new(heap),
         }
     }
 
@@ -83,9 +85,9 @@ impl Session {
     }
 
     fn read_sheet(&mut self, word: &[u8]) -> Result<(), LineFault> {
-        let text = bytes_of(self.heap, word)?;
+        let text = bytes_of(word, &mut self.room)?;
         let mut sheet = Sheet::blank(self.heap)?;
-        match fill(&mut sheet, &text) {
+        match fill(&mut sheet, text) {
             Ok(()) => {
                 let n = sheet.templates.len();
                 self.sheet = Some(sheet);
@@ -100,9 +102,9 @@ impl Session {
         let Some(sheet) = &self.sheet else {
             return Err(LineFault::Unknown);
         };
-        let bytes = bytes_of(self.heap, word)?;
-        match check(sheet, &bytes) {
-            Ok(()) => list_packet(&Checked::new(sheet, &bytes), &mut self.out)?,
+        let bytes = bytes_of(word, &mut self.room)?;
+        match check(sheet, bytes) {
+            Ok(()) => list_packet(&Checked::new(sheet, bytes), &mut self.out)?,
             Err(fault) => self.refuse(fault)?,
         }
         Ok(())
