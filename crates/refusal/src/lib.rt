@@ -157,26 +157,7 @@ impl TryFrom<u8> for Reason {
 
     fn try_from(number: u8) -> Result<Self, UnknownReason> {
         match number {
-            1 => Ok(Reason::Size),
-            2 => Ok(Reason::Empty),
-            3 => Ok(Reason::Torn),
-            4 => Ok(Reason::Length),
-            5 => Ok(Reason::Encoding),
-            6 => Ok(Reason::Schema),
-            7 => Ok(Reason::Block),
-            8 => Ok(Reason::Group),
-            9 => Ok(Reason::Channel),
-            10 => Ok(Reason::Version),
-            11 => Ok(Reason::Number),
-            12 => Ok(Reason::Late),
-            13 => Ok(Reason::Join),
-            14 => Ok(Reason::Shelf),
-            15 => Ok(Reason::Instrument),
-            16 => Ok(Reason::Opening),
-            17 => Ok(Reason::Sheet),
-            18 => Ok(Reason::Slot),
-            19 => Ok(Reason::Unfit),
-            20 => Ok(Reason::Owed),
+            1..=20 => Ok(Reason::ALL[usize::from(number) - 1]),
             _ => Err(UnknownReason(number)),
         }
     }
