@@ -36,6 +36,16 @@ clear_to b zero n d (s ∷ ss) r lt h = (h, tt)
 clear_to b (suc i) n d (s ∷ ss) r lt h =
     (omega (arith, rises_at (s.high + 2) i d ss r.2 (omega arith)), clear_to (s.high + 2) i n d ss r.2 (omega arith) h)
 
+-- where the last span stands clear of a number, each does
+pub clear-by-last :
+    (n k : ℕ) (s : Span) (ss : List Span) → Rises 0 ss → 0 < length ss → s ≡ get_or ss (length ss - 1) s → s.high + 2 ≤ n → k ≡ length ss
+    → Clear n (take k ss)
+clear-by-last n k s ss rises lt e above all =
+    let C : ℕ → Type 0 = λ j. Clear n (take j ss) in
+    let A : Span → Type 0 = λ x. x.high + 2 ≤ n in
+    let whole : suc (length ss - 1) ≡ k = omega (arith, lt, all) in
+    subst C whole (clear_to 0 (length ss - 1) n s ss rises (omega (arith, lt)) (subst A e above))
+
 pub near_at : (i n : ℕ) (d : Span) (ss : List Span) → i < length ss → n ≤ (get_or ss i d).high + 1 → Near n (drop i ss)
 near_at i n d [] lt h = absurd (omega arith)
 near_at zero n d (s ∷ ss) lt h = h

@@ -13,8 +13,12 @@ impl Spans {
         ensures before { Clear n (take result self.now.list.items) }
         ensures behind { Near n (drop result self.now.list.items) }
     {
-        self.list
-            .partition_point(|span| n.saturating_sub(span.high) > 1)
+        match self.list.last() {
+            Some(last) if n.saturating_sub(last.high) > 1 => self.list.len(),
+            _ => self
+                .list
+                .partition_point(|span| n.saturating_sub(span.high) > 1),
+        }
     }
 
     // What `n` is to the numbers of the spans, by its place.
