@@ -1,13 +1,21 @@
 ghost use Rattle.std.specs.Prelude.{length};
 ghost use Rattle.std.specs.Iterator.{at_most};
 
-use replay::call::Call;
-
-// what an entry of a file of calls says: a call of the receiver, or what is written into the shelf
+// what an entry of a file of calls says: which call of the receiver it is, or that its bytes are written into the shelf
 #[derive(Clone, Copy)]
-pub enum Entry<'a> {
-    Call(Call<'a>),
-    Poke(&'a [u8]),
+pub enum Kind {
+    Incremental,
+    Snapshot,
+    Poke,
+    Join,
+    Leave,
+}
+
+// an entry of a file of calls: what it says, and the bytes that it brings
+#[derive(Clone, Copy)]
+pub struct Entry<'a> {
+    pub kind: Kind,
+    pub bytes: &'a [u8],
 }
 
 // what is left of a file of calls: each a byte for its kind, two for the length of what it brings, and those bytes
@@ -16,15 +24,14 @@ pub struct Calls<'a> {
     pub rest: &'a [u8],
 }
 
-impl<'a> Entry<'a> {
-    // The entry of a kind that brings these bytes.
-    fn new(kind: u8, bytes: &'a [u8]) -> Entry<'a> {
-        match kind {
-            0 => Entry::Call(Call::Incremental(bytes)),
-            1 => Entry::Call(Call::Snapshot(bytes)),
-            3 => Entry::Call(Call::Join),
-            4 => Entry::Call(Call::Leave),
-            _ => Entry::Poke(bytes),
+impl From<u8> for Kind {
+    fn from(number: u8) -> Kind {
+        match number {
+            0 => Kind::Incremental,
+            1 => Kind::Snapshot,
+            3 => Kind::Join,
+            4 => Kind::Leave,
+            _ => Kind::Poke,
         }
     }
 }
@@ -42,7 +49,10 @@ impl<'a> Iterator for Calls<'a> {
         let n = usize::from(u16::from_le_bytes([*low, *high]));
         let (bytes, after) = behind.split_at_checked(n)?;
         self.rest = after;
-        Some(Entry::new(*kind, bytes))
+        Some(Entry {
+            kind: Kind::from(*kind),
+            bytes,
+        })
     }
 }
 

@@ -1,4 +1,4 @@
-use crate::calls::Calls;
+use crate::calls::{Calls, Entry};
 use crate::feeding::Feeding;
 use commands::digest::digest;
 use message::values::Order;
@@ -57,8 +57,8 @@ impl<'f, 't> Feeding<'f, OrderStore<'t>> {
     pub fn digest(&mut self, input: &[u8], ids: &[u64]) -> u64 {
         let mut mixed = Mixed(0);
         let mut count: u64 = 0;
-        for entry in (Calls { rest: input }) {
-            mixed.word(self.perform(entry));
+        for Entry { kind, bytes } in (Calls { rest: input }) {
+            mixed.word(self.perform(kind, bytes));
             self.mix_marks(&mut mixed, ids);
             count = count.saturating_add(1);
             if count % 64 == 0 {

@@ -1,4 +1,4 @@
-use crate::calls::{Calls, Entry, poke};
+use crate::calls::{Calls, Entry, Kind, poke};
 use layout::sheet::Sheet;
 use message::fields::security_of;
 use packet::checked::Checked;
@@ -35,22 +35,26 @@ fn code(answer: Answer) -> u64 {
 }
 
 impl<'f, S: Store> Feeding<'f, S> {
-    // Does what an entry says; the answer as a number.
-    pub fn perform(&mut self, entry: Entry) -> u64 {
-        match entry {
-            Entry::Call(call) => code(self.desk.perform(self.store, self.shelf, call)),
-            Entry::Poke(bytes) => {
+    // Does what an entry of that kind with these bytes says; the answer as a number.
+    pub fn perform(&mut self, kind: Kind, bytes: &[u8]) -> u64 {
+        let call = match kind {
+            Kind::Incremental => Call::Incremental(bytes),
+            Kind::Snapshot => Call::Snapshot(bytes),
+            Kind::Join => Call::Join,
+            Kind::Leave => Call::Leave,
+            Kind::Poke => {
                 poke(self.shelf, bytes);
-                0
+                return 0;
             }
-        }
+        };
+        code(self.desk.perform(self.store, self.shelf, call))
     }
 
     // The sum of all answers.
     pub fn feed(&mut self, input: &[u8]) -> u64 {
         let mut sum: u64 = 0;
-        for entry in (Calls { rest: input }) {
-            sum = sum.wrapping_add(self.perform(entry));
+        for Entry { kind, bytes } in (Calls { rest: input }) {
+            sum = sum.wrapping_add(self.perform(kind, bytes));
         }
         sum
     }
@@ -74,8 +78,8 @@ fn walk_packet(sheet: &Sheet, bytes: &[u8]) -> Option<u64> {
 // Checks every packet and walks over its messages; the sum of their instruments.
 pub fn walk_all(sheet: &Sheet, input: &[u8]) -> u64 {
     let mut sum: u64 = 0;
-    for entry in (Calls { rest: input }) {
-        if let Entry::Call(Call::Incremental(bytes) | Call::Snapshot(bytes)) = entry {
+    for Entry { kind, bytes } in (Calls { rest: input }) {
+        if let Kind::Incremental | Kind::Snapshot = kind {
             if let Some(ids) = walk_packet(sheet, bytes) {
                 sum = sum.wrapping_add(ids);
             }
