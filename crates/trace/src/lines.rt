@@ -31,19 +31,20 @@ impl<'a> Iterator for Lines<'a> {
     ghost remaining = { λ s. at_most (length s.rest.now) };
 
     fn next(&mut self) -> Option<Line<'a>> {
-        if self.rest.is_empty() {
+        let rest = self.rest;
+        if rest.is_empty() {
             return None;
         }
-        let rest = self.rest;
-        let (text, after) = match rest.iter().position(|b| *b == b'\n') {
-            Some(at) => (&rest[..at], &rest[at + 1..]),
-            None => (rest, &rest[rest.len()..]),
-        };
-        self.rest = after;
         self.number = self.number.saturating_add(1);
+        let number = self.number;
+        let Some(at) = rest.iter().position(|b| *b == b'\n') else {
+            self.rest = &rest[rest.len()..];
+            return Some(Line { text: rest, number });
+        };
+        self.rest = &rest[at + 1..];
         Some(Line {
-            text,
-            number: self.number,
+            text: &rest[..at],
+            number,
         })
     }
 }
