@@ -2,6 +2,8 @@
 
 #[cfg(test)]
 mod tests {
+    use commands::number::numbers;
+    use hex_digits::decode;
     use layout::sheet::Sheet;
     use sheet_text::filling::fill;
     use std::test::Fail;
@@ -154,6 +156,39 @@ mod tests {
         assert_eq!(rt; sheet.templates.len(), 15);
         assert!(rt; sheet.template(71).is_some());
         assert!(rt; sheet.template(72).is_none());
+        Ok(())
+    }
+
+    #[test]
+    fn a_copy_says_what_the_sheet_says(rt: HostRuntime) -> Result<(), Fail> {
+        let mut sheet = Sheet::blank(rt.alloc())?;
+        assert!(rt; fill(&mut sheet, b"new change topcut bottomcut\n0 1 2 3\n\ntemplate kind field offset width\n7 empty security 0 8\n263 empty security 4 8\n").is_ok());
+        let copy = sheet.clone()?;
+        assert_eq!(rt; copy.templates.len(), 2);
+        assert_eq!(rt; copy.actions.bottomcut, 3);
+        assert!(rt; copy.template(7).is_some());
+        assert!(rt; copy.template(263).is_some());
+        assert!(rt; copy.template(519).is_none());
+        Ok(())
+    }
+
+    #[test]
+    fn numbers_of_a_list(rt: HostRuntime) -> Result<(), Fail> {
+        let found = numbers(rt.alloc(), b"5,0,18446744073709551615", b',')?;
+        assert_eq!(rt; found.as_ref().map(|n| n.len()), Some(3));
+        assert_eq!(rt; found.as_ref().and_then(|n| n.last().copied()), Some(u64::MAX));
+        assert!(rt; numbers(rt.alloc(), b"5,", b',')?.is_none());
+        assert!(rt; numbers(rt.alloc(), b"", b',')?.is_none());
+        Ok(())
+    }
+
+    #[test]
+    fn words_of_digits(rt: HostRuntime) -> Result<(), Fail> {
+        let mut room = Vec::new(rt.alloc());
+        assert_eq!(rt; decode(b"00ff10", &mut room)?, Some(b"\x00\xff\x10".as_slice()));
+        assert_eq!(rt; decode(b"-", &mut room)?.map(|b| b.len()), Some(0));
+        assert!(rt; decode(b"0f1", &mut room)?.is_none());
+        assert!(rt; decode(b"0F", &mut room)?.is_none());
         Ok(())
     }
 }
