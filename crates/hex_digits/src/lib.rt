@@ -27,10 +27,7 @@ fn byte(a: u8, b: u8) -> Option<u8>
 
 // The bytes that a word stands for, where it stands for some: digits, at least two, or a lone `-` for no byte. They are written into
 // `room`, in the place of what it held, so that words that follow one another ask for no memory of their own.
-pub fn decode<'r>(
-    word: &[u8],
-    room: &'r mut Vec<u8>,
-) -> Result<Option<&'r [u8]>, AllocError>
+pub fn decode<'r>(word: &[u8], room: &'r mut Vec<u8>) -> Result<Option<&'r [u8]>, AllocError>
     ensures { IfOk result (λ bytes. option_map (λ b. b.now) bytes ≡ word_bytes word.now) }
 {
     room.clear();
@@ -42,10 +39,7 @@ pub fn decode<'r>(
 }
 
 // The bytes of an even number of digits, written into room that is empty.
-fn digits<'r>(
-    word: &[u8],
-    room: &'r mut Vec<u8>,
-) -> Result<Option<&'r [u8]>, AllocError>
+fn digits<'r>(word: &[u8], room: &'r mut Vec<u8>) -> Result<Option<&'r [u8]>, AllocError>
     requires { room.old.items ≡ [] }
     ensures { IfOk result (λ bytes. option_map (λ b. b.now) bytes ≡ digits_of word.now) }
 {

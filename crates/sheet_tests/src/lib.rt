@@ -162,7 +162,13 @@ mod tests {
     #[test]
     fn a_copy_says_what_the_sheet_says(rt: HostRuntime) -> Result<(), Fail> {
         let mut sheet = Sheet::blank(rt.alloc())?;
-        assert!(rt; fill(&mut sheet, b"new change topcut bottomcut\n0 1 2 3\n\ntemplate kind field offset width\n7 empty security 0 8\n263 empty security 4 8\n").is_ok());
+        assert!(rt;
+            fill(
+                &mut sheet,
+                b"new change topcut bottomcut\n0 1 2 3\n\ntemplate kind field offset width\n7 empty security 0 8\n263 empty security 4 8\n"
+            )
+            .is_ok()
+        );
         let copy = sheet.clone()?;
         assert_eq!(rt; copy.templates.len(), 2);
         assert_eq!(rt; copy.actions.bottomcut, 3);
@@ -176,7 +182,10 @@ mod tests {
     fn numbers_of_a_list(rt: HostRuntime) -> Result<(), Fail> {
         let found = numbers(rt.alloc(), b"5,0,18446744073709551615", b',')?;
         assert_eq!(rt; found.as_ref().map(|n| n.len()), Some(3));
-        assert_eq!(rt; found.as_ref().and_then(|n| n.last().copied()), Some(u64::MAX));
+        assert_eq!(rt;
+            found.as_ref().and_then(|n| n.last().copied()),
+            Some(u64::MAX)
+        );
         assert!(rt; numbers(rt.alloc(), b"5,", b',')?.is_none());
         assert!(rt; numbers(rt.alloc(), b"", b',')?.is_none());
         Ok(())
@@ -185,7 +194,10 @@ mod tests {
     #[test]
     fn words_of_digits(rt: HostRuntime) -> Result<(), Fail> {
         let mut room = Vec::new(rt.alloc());
-        assert_eq!(rt; decode(b"00ff10", &mut room)?, Some(b"\x00\xff\x10".as_slice()));
+        assert_eq!(rt;
+            decode(b"00ff10", &mut room)?,
+            Some(b"\x00\xff\x10".as_slice())
+        );
         assert_eq!(rt; decode(b"-", &mut room)?.map(|b| b.len()), Some(0));
         assert!(rt; decode(b"0f1", &mut room)?.is_none());
         assert!(rt; decode(b"0F", &mut room)?.is_none());
