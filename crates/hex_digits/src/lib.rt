@@ -1,7 +1,6 @@
 #![tactic(auto)]
 
-ghost use Rattle.std.specs.Prelude.{◌≡◌, [], IfOk};
-ghost use Rattle.std.specs.Option.{option_map};
+ghost use Rattle.std.specs.Prelude.{◌≡◌, [], length, IfOk, MatchOption};
 ghost use Rattle.hex_digits.specs.Hex.{digit_of, byte_of, digits_of, word_bytes};
 
 use std::alloc::AllocError;
@@ -25,31 +24,36 @@ fn byte(a: u8, b: u8) -> Option<u8>
     Some(x * 16 + y)
 }
 
-// The bytes that a word stands for, where it stands for some: digits, at least two, or a lone `-` for no byte. They are written into
-// `room`, in the place of what it held, so that words that follow one another ask for no memory of their own.
-pub fn decode<'r>(word: &[u8], room: &'r mut Vec<u8>) -> Result<Option<&'r [u8]>, AllocError>
-    ensures { IfOk result (λ bytes. option_map (λ b. b.now) bytes ≡ word_bytes word.now) }
+// Fills `room` with the bytes that a word stands for, where it stands for some: digits, at least two, or a lone `-` for no byte. It
+// tells how many; where the word stands for none, `room` is empty then.
+pub fn decode(word: &[u8], room: &mut Vec<u8>) -> Result<Option<usize>, AllocError>
+    ensures { IfOk result (λ count. MatchOption (word_bytes word.now) ((count ≡ None) × (room.new.items ≡ [])) (λ bytes. (count ≡ Some (length bytes)) × (room.new.items ≡ bytes))) }
 {
     room.clear();
     match word {
-        b"-" => Ok(Some(room.as_slice())),
+        b"-" => Ok(Some(0)),
         [] | [_] => Ok(None),
         _ => digits(word, room),
     }
 }
 
-// The bytes of an even number of digits, written into room that is empty.
-fn digits<'r>(word: &[u8], room: &'r mut Vec<u8>) -> Result<Option<&'r [u8]>, AllocError>
+// Fills room that is empty with the bytes of an even number of digits.
+fn digits(word: &[u8], room: &mut Vec<u8>) -> Result<Option<usize>, AllocError>
     requires { room.old.items ≡ [] }
-    ensures { IfOk result (λ bytes. option_map (λ b. b.now) bytes ≡ digits_of word.now) }
+    ensures { IfOk result (λ count. MatchOption (digits_of word.now) ((count ≡ None) × (room.new.items ≡ [])) (λ bytes. (count ≡ Some (length bytes)) × (room.new.items ≡ bytes))) }
 {
     let mut left = word;
     while let [a, b, rest @ ..] = left {
         let Some(byte) = byte(*a, *b) else {
+            room.clear();
             return Ok(None);
         };
         room.push(byte)?;
         left = rest;
     }
-    Ok(left.is_empty().then_some(room.as_slice()))
+    if !left.is_empty() {
+        room.clear();
+        return Ok(None);
+    }
+    Ok(Some(room.len()))
 }

@@ -194,13 +194,11 @@ mod tests {
     #[test]
     fn words_of_digits(rt: HostRuntime) -> Result<(), Fail> {
         let mut room = Vec::new(rt.alloc());
-        assert_eq!(rt;
-            decode(b"00ff10", &mut room)?,
-            Some(b"\x00\xff\x10".as_slice())
-        );
-        assert_eq!(rt; decode(b"-", &mut room)?.map(|b| b.len()), Some(0));
-        assert!(rt; decode(b"0f1", &mut room)?.is_none());
-        assert!(rt; decode(b"0F", &mut room)?.is_none());
+        assert_eq!(rt; decode(b"00ff10", &mut room)?, Some(3));
+        assert_eq!(rt; room.as_slice(), b"\x00\xff\x10".as_slice());
+        assert_eq!(rt; decode(b"-", &mut room)?, Some(0));
+        assert_eq!(rt; decode(b"0f1", &mut room)?, None);
+        assert_eq!(rt; decode(b"0F", &mut room)?, None);
         Ok(())
     }
 }

@@ -26,7 +26,8 @@ pub struct Session {
 
 // The bytes that a word of hexadecimal digits stands for, written into that room.
 pub fn bytes_of<'r>(word: &[u8], room: &'r mut Vec<u8>) -> Result<&'r [u8], LineFault> {
-    hex_digits::decode(word, room)?.ok_or(LineFault::Unknown)
+    hex_digits::decode(word, room)?.ok_or(LineFault::Unknown)?;
+    Ok(room.as_slice())
 }
 
 impl Session {
