@@ -36,6 +36,7 @@ impl Destination {
     }
 
     // The place of the flow of a channel and version.
+    #[inline(never)]
     fn flow(&self, channel: u8, version: u16) -> Option<usize>
         ensures found { IfSome result (λ i. (i < length self.now.flows.items) × ((d : Flow) → is_flow (slice_index_or self.now.flows.items i d) channel version ≡ true)) }
         ensures absent { IsNone result → (k : ℕ) (d : Flow) → k < length self.now.flows.items → is_flow (slice_index_or self.now.flows.items k d) channel version ≡ false }

@@ -40,7 +40,8 @@ impl Table {
         }
     }
 
-    // The place of an address and port.
+    // The place of an address and port. It is left out of line, so that the search keeps its own registers.
+    #[inline(never)]
     fn destination(&self, to: Endpoint) -> Option<usize>
         ensures found { IfSome result (λ i. (i < length self.now.destinations.items) × ((d : Destination) → is_destination (slice_index_or self.now.destinations.items i d) to ≡ true)) }
         ensures absent { IsNone result → (k : ℕ) (d : Destination) → k < length self.now.destinations.items → is_destination (slice_index_or self.now.destinations.items k d) to ≡ false }
