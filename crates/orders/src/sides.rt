@@ -15,11 +15,13 @@ pub(crate) fn row_at(book: usize, side: Side) -> usize
     }
 }
 
-// The row of the side that a number is written for.
+// The row of the side that a number is written for. The side is reckoned with and not branched on, since sides come in no order.
 pub(crate) fn row_of(book: usize, side: u64) -> Option<usize>
     requires { book < 65 }
     ensures { result ≡ (if is_side side then Some (on_side side (2 * book) (2 * book + 1)) else None) }
 {
-    let side = Side::try_from(side).ok()?;
-    Some(row_at(book, side))
+    if side < 48 || side > 49 {
+        return None;
+    }
+    Some(2 * book + (side - 48) as usize)
 }
